@@ -1,0 +1,210 @@
+-- What follows from an answer that was delivered.
+use Rattle.std.proofs.Common.{◌≡◌, ◌≢◌, ℕ, ◌<◌, ◌≤◌, ◌⊎◌, List, Ok, Err, None, Some, IfErr, IfSome, inl, inr, refl, sym, ◌∙◌, ap, subst, arith}
+use Rattle.std.specs.declared.option.Option.{Option}
+use Rattle.std.specs.declared.result.Result.{Result}
+use Rattle.dk_io.specs.Causes.{Rose}
+use Rattle.dk_io.specs.Outside.{Told}
+use Rattle.dk_cli.specs.Answer.{Answers, AnswersCommand, ComesBeforeWriting, IsMemory, IsReadFault, IsToldOutcome, LacksFile}
+use Rattle.dk_cli.specs.Commands.{Convert}
+use Rattle.dk_cli.specs.Delivery.{Change, Delivers, IsCut, IsNoted, IsRefused, IsUntouched, IsWritten}
+use Rattle.dk_cli.specs.Headline.{CanCome, CarriesOutEach, DoesOutcome, IsCarriedOut, IsDone, Lacks, NotesByStatus, WritesByStatus}
+use Rattle.dk_cli.specs.Outcome.{IsOutcome}
+use Rattle.dk_cli.specs.Refusals.{line_of, status_of, NamesStep}
+use Rattle.dk_cli.specs.declared.refusal.Refusal.{Refusal}
+use Rattle.dk_cli.specs.declared.refusal.Refusal.TheVariants.{Words, ReadFault, TooLong, Unbuilt, NoRefutation, Wrong, WriteFault, Memory}
+use Rattle.dk_cli.specs.declared.refusal.Status.{Status}
+use Rattle.dk_cli.specs.declared.refusal.Status.TheVariants as status
+use Rattle.dk_cli.proofs.OneOutcome.{one_outcome}
+
+-- a refusal's status is its own, or that memory ran out
+pub refused_status : (refusal : Refusal) (result : Status) (notes : Change)
+    → IsRefused refusal result notes ⊎ (NamesStep refusal × IsRefused Memory result notes) → (result ≡ status_of refusal) ⊎ (result ≡ status.Memory)
+refused_status refusal result notes (inl h) = inl h.status
+refused_status refusal result notes (inr h) = inr h.1.status
+
+-- no refusal has status 0, and none a status that can't come
+can_refuse : (refusal : Refusal) → CanCome (status_of refusal)
+can_refuse Words = tt
+can_refuse (ReadFault file) = tt
+can_refuse (TooLong file) = tt
+can_refuse (Unbuilt file) = tt
+can_refuse NoRefutation = tt
+can_refuse (Wrong step reason) = tt
+can_refuse WriteFault = tt
+can_refuse Memory = tt
+
+pub can_come : (answer : Result (List ℕ) Refusal) (result : Status) (out notes : Change) → Delivers answer result out notes → CanCome result
+can_come (Ok text) result out notes (inl w) = subst CanCome (sym w.status) tt
+can_come (Ok text) result out notes (inr w) = subst CanCome (sym w.refused.status) tt
+can_come (Err refusal) result out notes d =
+    elim (refused_status refusal result notes d.1) [ inl s ↦ subst CanCome (sym s) (can_refuse refusal) | inr s ↦ subst CanCome (sym s) tt ]
+
+-- a refusal but that of a write fault leaves the sink alone
+untouched_by : (refusal : Refusal) (out : Change) → refusal ≢ WriteFault → IsUntouched out → WritesByStatus (status_of refusal) out
+untouched_by Words out other u = u
+untouched_by (ReadFault file) out other u = u
+untouched_by (TooLong file) out other u = u
+untouched_by (Unbuilt file) out other u = u
+untouched_by NoRefutation out other u = u
+untouched_by (Wrong step reason) out other u = u
+untouched_by WriteFault out other u = absurd (other refl)
+untouched_by Memory out other u = u
+
+-- no answer is a write fault
+never_write_fault : (told : Told) (command : Option Convert) (before now : ℕ) (answer : Result (List ℕ) Refusal)
+    → Answers told command before now answer → answer ≢ Err WriteFault
+never_write_fault told None before now answer a e = let words = sym a.0 ∙ e in cc
+never_write_fault told (Some command) before now answer a e = subst (λ r. IfErr r ComesBeforeWriting) e a.refusal
+
+pub writes_by : (told : Told) (command : Option Convert) (before now : ℕ) (answer : Result (List ℕ) Refusal) (result : Status) (out notes : Change)
+    → Answers told command before now answer → Delivers answer result out notes → WritesByStatus result out
+writes_by told command before now (Ok text) result out notes a (inl w) = subst (λ s. WritesByStatus s out) (sym w.status) (text, w.bytes, w.still)
+writes_by told command before now (Ok text) result out notes a (inr w) = subst (λ s. WritesByStatus s out) (sym w.refused.status) (text, w.bytes)
+writes_by told command before now (Err refusal) result out notes a d =
+    elim (refused_status refusal result notes d.1) [
+      | inl s ↦ subst (λ r. WritesByStatus r out) (sym s) (untouched_by refusal out (λ e. never_write_fault told command before now (Err refusal) a (ap Err e)) d.0)
+      | inr s ↦ subst (λ r. WritesByStatus r out) (sym s) d.0
+    ]
+
+-- each refusal sends one line
+noted_by : (refusal : Refusal) (notes : Change) → IsNoted notes (line_of refusal) → NotesByStatus (status_of refusal) notes
+noted_by Words notes n = (line_of Words, n)
+noted_by (ReadFault file) notes n = (line_of (ReadFault file), n)
+noted_by (TooLong file) notes n = (line_of (TooLong file), n)
+noted_by (Unbuilt file) notes n = (line_of (Unbuilt file), n)
+noted_by NoRefutation notes n = (line_of NoRefutation, n)
+noted_by (Wrong step reason) notes n = (line_of (Wrong step reason), n)
+noted_by WriteFault notes n = (line_of WriteFault, n)
+noted_by Memory notes n = (line_of Memory, n)
+
+one_line : (refusal : Refusal) (result : Status) (notes : Change) → IsRefused refusal result notes → NotesByStatus result notes
+one_line refusal result notes r = subst (λ s. NotesByStatus s notes) (sym r.status) (noted_by refusal notes r.line)
+
+pub notes_by : (answer : Result (List ℕ) Refusal) (result : Status) (out notes : Change) → Delivers answer result out notes → NotesByStatus result notes
+notes_by (Ok text) result out notes (inl w) = subst (λ s. NotesByStatus s notes) (sym w.status) w.quiet
+notes_by (Ok text) result out notes (inr w) = one_line WriteFault result notes w.refused
+notes_by (Err refusal) result out notes d = elim d.1 [ inl r ↦ one_line refusal result notes r | inr r ↦ one_line Memory result notes r.1 ]
+
+-- the status of words comes only for words
+not_words : (refusal : Refusal) → ComesBeforeWriting refusal → status_of refusal ≢ status.Words
+not_words Words h e = h
+not_words (ReadFault file) h e = cc
+not_words (TooLong file) h e = cc
+not_words (Unbuilt file) h e = cc
+not_words NoRefutation h e = cc
+not_words (Wrong step reason) h e = cc
+not_words WriteFault h e = h
+not_words Memory h e = cc
+
+command_not_words : (told : Told) (command : Convert) (before now : ℕ) (answer : Result (List ℕ) Refusal) (result : Status) (out notes : Change)
+    → AnswersCommand told command before now answer → Delivers answer result out notes → result ≢ status.Words
+command_not_words told command before now (Ok text) result out notes a (inl w) e = let s = w.status in cc
+command_not_words told command before now (Ok text) result out notes a (inr w) e = let s = w.refused.status in cc
+command_not_words told command before now (Err refusal) result out notes a d e =
+    elim (refused_status refusal result notes d.1) [ inl s ↦ not_words refusal a.refusal (sym s ∙ e) | inr s ↦ let m = sym s ∙ e in cc ]
+
+pub words_only : (told : Told) (command : Option Convert) (before now : ℕ) (answer : Result (List ℕ) Refusal) (result : Status) (out notes : Change)
+    → Answers told command before now answer → Delivers answer result out notes → result ≡ status.Words → command ≡ None
+words_only told None before now answer result out notes a d e = refl
+words_only told (Some command) before now answer result out notes a d e = absurd (command_not_words told command before now answer result out notes a d e)
+
+told_words : (answer : Result (List ℕ) Refusal) (result : Status) (out notes : Change)
+    → answer ≡ Err Words → Delivers answer result out notes → result ≡ status.Words
+told_words answer result out notes e d =
+    let refused : Delivers (Err Words) result out notes = subst (λ x. Delivers x result out notes) e d in
+    elim refused.1 [ inl r ↦ r.status | inr r ↦ absurd r.0 ]
+
+pub words_if : (told : Told) (command : Option Convert) (before now : ℕ) (answer : Result (List ℕ) Refusal) (result : Status) (out notes : Change)
+    → Answers told command before now answer → Delivers answer result out notes → command ≡ None → result ≡ status.Words
+words_if told None before now answer result out notes a d e = told_words answer result out notes a.0 d
+words_if told (Some command) before now answer result out notes a d e = cc
+
+pub words_count : (told : Told) (command : Option Convert) (before now : ℕ) (answer : Result (List ℕ) Refusal)
+    → Answers told command before now answer → command ≡ None → now ≡ before
+words_count told None before now answer a e = a.1
+words_count told (Some command) before now answer a e = cc
+
+-- what was told without memory running out is the refusal itself
+refused_itself : (refusal : Refusal) (result : Status) (notes : Change) → result ≢ status.Memory
+    → IsRefused refusal result notes ⊎ (NamesStep refusal × IsRefused Memory result notes) → IsRefused refusal result notes
+refused_itself refusal result notes memory (inl r) = r
+refused_itself refusal result notes memory (inr r) = absurd (memory r.1.status)
+
+done_by : (answer : Result (List ℕ) Refusal) (result : Status) (out notes : Change) → result ≢ status.Memory
+    → Delivers answer result out notes → IsDone answer result out notes
+done_by (Ok text) result out notes memory d = d
+done_by (Err refusal) result out notes memory d = (d.0, refused_itself refusal result notes memory d.1)
+
+-- an answer of want of memory ends with its status
+memory_status : (answer : Result (List ℕ) Refusal) (result : Status) (out notes : Change) → IsMemory answer → Delivers answer result out notes → result ≡ status.Memory
+memory_status (Ok text) result out notes m d = absurd m
+memory_status (Err Memory) result out notes m d = elim d.1 [ inl r ↦ r.status | inr r ↦ r.1.status ]
+memory_status (Err Words) result out notes m d = absurd m
+memory_status (Err (ReadFault file)) result out notes m d = absurd m
+memory_status (Err (TooLong file)) result out notes m d = absurd m
+memory_status (Err (Unbuilt file)) result out notes m d = absurd m
+memory_status (Err NoRefutation) result out notes m d = absurd m
+memory_status (Err (Wrong step reason)) result out notes m d = absurd m
+memory_status (Err WriteFault) result out notes m d = absurd m
+
+told_itself : (told : Told) (command : Convert) (before now : ℕ) (answer : Result (List ℕ) Refusal) (result : Status) (out notes : Change)
+    → AnswersCommand told command before now answer → Delivers answer result out notes → ¬ Rose before now → result ≢ status.Memory
+    → IsToldOutcome told command answer
+told_itself told command before now answer result out notes a d still memory = elim a.outcome [
+  | inl h ↦ absurd (still h.1)
+  | inr rest ↦ elim rest [ inl m ↦ absurd (memory (memory_status answer result out notes m d)) | inr outcome ↦ outcome ]
+]
+
+does : (told : Told) (command : Convert) (before now : ℕ) (answer : Result (List ℕ) Refusal) (result : Status) (out notes : Change)
+    → AnswersCommand told command before now answer → Delivers answer result out notes → DoesOutcome told command before now result out notes
+does told command before now answer result out notes a d still memory =
+    (answer, told_itself told command before now answer result out notes a d still memory, done_by answer result out notes memory d)
+
+pub some_does : (told : Told) (command : Option Convert) (before now : ℕ) (answer : Result (List ℕ) Refusal) (result : Status) (out notes : Change)
+    → Answers told command before now answer → Delivers answer result out notes → IfSome command (λ found. DoesOutcome told found before now result out notes)
+some_does told None before now answer result out notes a d = tt
+some_does told (Some command) before now answer result out notes a d = does told command before now answer result out notes a d
+
+whole : (answer : Result (List ℕ) Refusal) (result : Status) (out notes : Change) → ¬ Rose out.before out.now
+    → IsDone answer result out notes → IsCarriedOut answer result out notes
+whole (Ok text) result out notes still (inl w) = w
+whole (Ok text) result out notes still (inr w) = absurd (still w.rose)
+whole (Err refusal) result out notes still d = d
+
+carries : (told : Told) (command : Convert) (before now : ℕ) (answer : Result (List ℕ) Refusal) (result : Status) (out notes : Change)
+    → AnswersCommand told command before now answer → Delivers answer result out notes → CarriesOutEach told command before now result out notes
+carries None command before now answer result out notes a d = tt
+carries (Some files) command before now answer result out notes a d = λ other outcome reads cut memory.
+    let mine = told_itself (Some files) command before now answer result out notes a d reads memory in
+    subst (λ x. IsCarriedOut x result out notes) (one_outcome (files command.problem) (files command.trace) answer other mine outcome)
+    (whole answer result out notes cut (done_by answer result out notes memory d))
+
+pub some_carries : (told : Told) (command : Option Convert) (before now : ℕ) (answer : Result (List ℕ) Refusal) (result : Status) (out notes : Change)
+    → Answers told command before now answer → Delivers answer result out notes → IfSome command (λ found. CarriesOutEach told found before now result out notes)
+some_carries told None before now answer result out notes a d = tt
+some_carries told (Some command) before now answer result out notes a d = carries told command before now answer result out notes a d
+
+-- an answer of a read fault ends with its status
+fault_status : (answer : Result (List ℕ) Refusal) (result : Status) (out notes : Change) → IsReadFault answer → Delivers answer result out notes → result ≡ status.ReadFault
+fault_status (Ok text) result out notes f d = absurd f
+fault_status (Err (ReadFault file)) result out notes f d = elim d.1 [ inl r ↦ r.status | inr r ↦ absurd r.0 ]
+fault_status (Err Memory) result out notes f d = absurd f
+fault_status (Err Words) result out notes f d = absurd f
+fault_status (Err (TooLong file)) result out notes f d = absurd f
+fault_status (Err (Unbuilt file)) result out notes f d = absurd f
+fault_status (Err NoRefutation) result out notes f d = absurd f
+fault_status (Err (Wrong step reason)) result out notes f d = absurd f
+fault_status (Err WriteFault) result out notes f d = absurd f
+
+pub read_rose : (told : Told) (command : Option Convert) (before now : ℕ) (answer : Result (List ℕ) Refusal) (result : Status) (out notes : Change)
+    → Answers told command before now answer → Delivers answer result out notes → before < now → result ≡ status.ReadFault
+read_rose told None before now answer result out notes a d rose = let same = a.1 in absurd (omega arith)
+read_rose told (Some command) before now answer result out notes a d rose = fault_status answer result out notes (a.rose rose) d
+
+pub read_lacks : (told : Told) (command : Option Convert) (before now : ℕ) (answer : Result (List ℕ) Refusal) (result : Status) (out notes : Change)
+    → Answers told command before now answer → Delivers answer result out notes → Lacks told command → (result ≡ status.ReadFault) ⊎ (result ≡ status.Memory)
+read_lacks told None before now answer result out notes a d lacks = absurd lacks
+read_lacks told (Some command) before now answer result out notes a d lacks = elim (a.lacks lacks) [
+  | inl f ↦ inl (fault_status answer result out notes f d)
+  | inr m ↦ inr (memory_status answer result out notes m d)
+]

@@ -1,0 +1,4 @@
+pub mod Carried
+pub mod Developed
+pub mod OneOutcome
+pub mod Unread

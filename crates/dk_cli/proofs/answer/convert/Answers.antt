@@ -1,0 +1,19 @@
+use Rattle.std.proofs.Common.{Err, ap, sym, ◌∙◌}
+use Rattle.std.proofs.lemmas.Result.{err_from_is_err_and}
+use Rattle.dk_cli.specs.Steps.{command_view}
+use Rattle.dk_cli.proofs.Unread.{problem_ends, trace_ends}
+use Rattle.dk_cli.proofs.answer.convert.Goals as goal
+
+pub returns-in_err-problem-clause-answers : goal.returns-in_err-problem-clause-answers
+returns-in_err-problem-clause-answers g c =
+    let end = err_from_is_err_and c.from_residual.result c.from_residual.ensures.1 in
+    problem_ends (g.I.Inputs.told c.args.inputs.now) (command_view c.args.names) _ _ c.read_file.result c.from_residual.result end.0
+    (c.in_err-problem.was ∙ ap Err (sym end.2)) end.1 c.read_file.ensures.reads
+
+pub returns-in_err-trace-clause-answers : goal.returns-in_err-trace-clause-answers
+returns-in_err-trace-clause-answers g c =
+    let end = err_from_is_err_and c.from_residual-in_err-trace.result c.from_residual-in_err-trace.ensures.1 in
+    trace_ends (g.I.Inputs.told c.args.inputs.now) (g.I.Inputs.told c.read_file.new.inputs) (command_view c.args.names) _ _ _
+    c.read_file.result c.read_file-2.result c.from_residual-in_err-trace.result c.in_ok-problem.problem end.0
+    c.in_ok-problem.was c.read_file.ensures.reads c.read_file.ensures.same
+    (c.in_err-trace.was ∙ ap Err (sym end.2)) end.1 c.read_file-2.ensures.reads

@@ -1,0 +1,38 @@
+use Rattle.dk_cli.proofs.Carried.{can_come, notes_by, read_lacks, read_rose, some_carries, some_does, words_count, words_if, words_only, writes_by}
+use Rattle.dk_cli.proofs.run.run.Goals as goal
+
+pub returns-clause-statuses : goal.returns-clause-statuses
+returns-clause-statuses g c = let run = c.run_answered.ensures.run in can_come run.answer _ _ _ run.delivers
+
+pub returns-clause-sink : goal.returns-clause-sink
+returns-clause-sink g c = let run = c.run_answered.ensures.run in writes_by _ _ _ _ run.answer _ _ _ run.answers run.delivers
+
+pub returns-clause-line : goal.returns-clause-line
+returns-clause-line g c = let run = c.run_answered.ensures.run in notes_by run.answer _ _ _ run.delivers
+
+pub returns-clause-words : goal.returns-clause-words
+returns-clause-words g c =
+    let run = c.run_answered.ensures.run in
+    (words_only _ _ _ _ run.answer _ _ _ run.answers run.delivers, words_if _ _ _ _ run.answer _ _ _ run.answers run.delivers)
+
+pub returns-clause-words_left : goal.returns-clause-words_left
+returns-clause-words_left g c = λ e.
+    let run = c.run_answered.ensures.run in
+    c.run_answered.ensures.left (words_only _ _ _ _ run.answer _ _ _ run.answers run.delivers e)
+
+pub returns-clause-words_count : goal.returns-clause-words_count
+returns-clause-words_count g c = λ e.
+    let run = c.run_answered.ensures.run in
+    words_count _ _ _ _ run.answer run.answers (words_only _ _ _ _ run.answer _ _ _ run.answers run.delivers e)
+
+pub returns-clause-outcome : goal.returns-clause-outcome
+returns-clause-outcome g c = let run = c.run_answered.ensures.run in some_does _ _ _ _ run.answer _ _ _ run.answers run.delivers
+
+pub returns-clause-exactly : goal.returns-clause-exactly
+returns-clause-exactly g c = let run = c.run_answered.ensures.run in some_carries _ _ _ _ run.answer _ _ _ run.answers run.delivers
+
+pub returns-clause-read_rose : goal.returns-clause-read_rose
+returns-clause-read_rose g c = λ rose. let run = c.run_answered.ensures.run in read_rose _ _ _ _ run.answer _ _ _ run.answers run.delivers rose
+
+pub returns-clause-read_lacks : goal.returns-clause-read_lacks
+returns-clause-read_lacks g c = λ lacks. let run = c.run_answered.ensures.run in read_lacks _ _ _ _ run.answer _ _ _ run.answers run.delivers lacks

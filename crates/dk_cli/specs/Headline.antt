@@ -1,0 +1,65 @@
+-- What a caller of the program can rely on.
+use Rattle.std.specs.Prelude.{◌≡◌, ◌≢◌, ℕ, ◌⊎◌, List, Ok, Err, None, Some}
+use Rattle.std.specs.declared.option.Option.{Option}
+use Rattle.std.specs.declared.result.Result.{Result}
+use Rattle.std.specs.Io.KnownBytes.{Appends}
+use Rattle.dk_io.specs.Causes.{Rose}
+use Rattle.dk_io.specs.Outside.{Told, AppendsFront}
+use Rattle.dk_cli.specs.Commands.{Convert}
+use Rattle.dk_cli.specs.Answer.{Answers, IsToldOutcome, LacksFile}
+use Rattle.dk_cli.specs.Delivery.{Change, Delivers, IsCut, IsNoted, IsRefused, IsUntouched, IsWritten}
+use Rattle.dk_cli.specs.declared.refusal.Refusal.{Refusal}
+use Rattle.dk_cli.specs.declared.refusal.Status.{Status}
+use Rattle.dk_cli.specs.declared.refusal.Status.TheVariants as status
+
+-- There is an answer to the words, and it was delivered.
+pub record IsRun (told : Told) (command : Option Convert) (before now : ℕ) (result : Status) (out notes : Change) : Type 0 where
+  pub answer : Result (List ℕ) Refusal
+  pub answers : Answers told command before now answer
+  pub delivers : Delivers answer result out notes
+
+-- A file that the words' command reads is absent.
+abbrev pub Lacks : Told → Option Convert → Type 0
+Lacks told None = ⊥
+Lacks told (Some command) = LacksFile told command
+
+-- The statuses that can come: neither that of a text that is not TPTP nor that of a file that is not typed.
+abbrev pub CanCome : Status → Type 0
+CanCome status.Text = ⊥
+CanCome status.IllTyped = ⊥
+CanCome result = Unit {0}
+
+-- What the sink has more: one text with status 0, the front of one after a write fault, else nothing.
+abbrev pub WritesByStatus : Status → Change → Type 0
+WritesByStatus status.Done out = (text : List ℕ) × Appends out.old out.new text × (out.now ≡ out.before)
+WritesByStatus status.WriteFault out = (text : List ℕ) × AppendsFront out.old out.new text
+WritesByStatus result out = IsUntouched out
+
+-- What the notes have more: nothing with status 0, else exactly one line.
+abbrev pub NotesByStatus : Status → Change → Type 0
+NotesByStatus status.Done notes = IsUntouched notes
+NotesByStatus result notes = (line : List ℕ) × IsNoted notes line
+
+-- The answer is written, whole or to where the sink failed, or it is told by its status and its one line.
+abbrev pub IsDone : Result (List ℕ) Refusal → Status → Change → Change → Type 0
+IsDone (Ok text) result out notes = IsWritten text result out notes ⊎ IsCut text result out notes
+IsDone (Err refusal) result out notes = IsUntouched out × IsRefused refusal result notes
+
+-- Where the inputs' count did not rise and memory was found, what was done is the outcome of the files.
+abbrev pub DoesOutcome : Told → Convert → ℕ → ℕ → Status → Change → Change → Type 0
+DoesOutcome told command before now result out notes =
+    ¬ Rose before now → result ≢ status.Memory
+    → (answer : Result (List ℕ) Refusal) × IsToldOutcome told command answer × IsDone answer result out notes
+
+-- An answer in full: the text and nothing else, or the status and the one line and nothing written.
+abbrev pub IsCarriedOut : Result (List ℕ) Refusal → Status → Change → Change → Type 0
+IsCarriedOut (Ok text) result out notes = IsWritten text result out notes
+IsCarriedOut (Err refusal) result out notes = IsUntouched out × IsRefused refusal result notes
+
+-- Whatever the outcome of told files is, where no count rose and memory was found it is carried out in
+-- full. So there is one outcome, and each status, text and line comes exactly where it is the outcome's.
+abbrev pub CarriesOutEach : Told → Convert → ℕ → ℕ → Status → Change → Change → Type 0
+CarriesOutEach None command before now result out notes = Unit {0}
+CarriesOutEach (Some files) command before now result out notes =
+    (answer : Result (List ℕ) Refusal) → IsToldOutcome (Some files) command answer
+    → ¬ Rose before now → ¬ Rose out.before out.now → result ≢ status.Memory → IsCarriedOut answer result out notes

@@ -1,0 +1,7 @@
+pub mod Answer
+pub mod Commands
+pub mod Delivery
+pub mod Headline
+pub mod Outcome
+pub mod Refusals
+pub mod Steps

@@ -1,0 +1,52 @@
+//! Reads a problem and a refutation of it and writes a development whose `goal` has the problem's type.
+#![tactic(auto)]
+
+mod answer;
+mod refusal;
+mod run;
+
+use dk_io::{ErrNotes, FileInputs, NoGate, OutSink};
+pub use refusal::{File, Refusal, Status};
+use run::refuse;
+pub use run::run;
+use std::alloc::AllocError;
+use std::env;
+use std::env::Env;
+use std::io::ErrorKind;
+use std::process::ExitCode;
+
+/// The words of the command line, without the program's name.
+fn words<R: Env + AllocGlobal>(rt: &R) -> Result<Vec<String>, Refusal> {
+    match env::args(rt) {
+        Ok(args) => args
+            .skip(1)
+            .collect(rt.alloc())
+            .map_err(|_: AllocError| Refusal::Memory),
+        Err(error) if error.kind() == ErrorKind::OutOfMemory => Err(Refusal::Memory),
+        Err(_) => Err(Refusal::Words),
+    }
+}
+
+fn main(rt: HostRuntime) -> ExitCode {
+    let mut notes = ErrNotes::new(&rt);
+    let status = match words(&rt) {
+        Ok(words) => {
+            let mut inputs = FileInputs::new(&rt);
+            let mut out = OutSink::new(&rt);
+            run(
+                &rt,
+                rt.alloc(),
+                &words,
+                &mut inputs,
+                &mut out,
+                &mut notes,
+                &NoGate,
+            )
+        }
+        Err(refusal) => refuse(rt.alloc(), &refusal, &mut notes),
+    };
+    ExitCode::from(status as u8)
+}
+
+#[cfg(test)]
+mod tests;

@@ -1,0 +1,124 @@
+//! The top call: an answer, written or told.
+ghost use Rattle.std.specs.Prelude.{◌≡◌, ◌<◌, ◌⊎◌, ◌↔◌, None, Some, IfSome};
+ghost use Rattle.dk_io.specs.Causes.{Rose};
+ghost use Rattle.dk_cli.specs.Commands.{texts, command_of};
+ghost use Rattle.dk_cli.specs.Delivery.{Delivers, IsRefused, change};
+ghost use Rattle.dk_cli.specs.Headline.{CanCome, CarriesOutEach, DoesOutcome, IsRun, Lacks, NotesByStatus, WritesByStatus};
+ghost use Rattle.dk_cli.specs.Refusals.{NamesStep};
+ghost use Rattle.dk_cli.specs.Steps.{answer_view};
+
+use crate::answer::answer;
+use crate::{Refusal, Status};
+use dk_io::{Gate, Inputs, Notes, Sink, write_all};
+use std::alloc::Global;
+use std::thread::Threads;
+
+/// Sends the line of a refusal, or that memory ran out.
+pub fn refuse<N: Notes>(alloc: Global, refusal: &Refusal, notes: &mut N) -> Status
+    ensures { (IsRefused refusal.now result (change (N.kept notes.old) (N.kept notes.new) (N.faults notes.old) (N.faults notes.new)))
+        ⊎ (NamesStep refusal.now × IsRefused Refusal.Memory result (change (N.kept notes.old) (N.kept notes.new) (N.faults notes.old) (N.faults notes.new))) }
+{
+    if let Some(line) = refusal.fixed_line() {
+        let _ = notes.line(line);
+        return refusal.status();
+    }
+    match refusal.line(alloc) {
+        Ok(line) => {
+            let _ = notes.line(line.as_str());
+            refusal.status()
+        }
+        Err(_) => {
+            let _ = notes.line("out of memory");
+            Status::Memory
+        }
+    }
+}
+
+// Writes a text, or sends the line of a refusal.
+fn deliver<K: Sink, N: Notes>(
+    alloc: Global,
+    answer: Result<Vec<u8>, Refusal>,
+    out: &mut K,
+    notes: &mut N,
+) -> Status
+    ensures { Delivers (answer_view answer) result
+        (change (K.kept out.old) (K.kept out.new) (K.faults out.old) (K.faults out.new))
+        (change (N.kept notes.old) (N.kept notes.new) (N.faults notes.old) (N.faults notes.new)) }
+{
+    match answer {
+        Ok(text) => match write_all(out, &text) {
+            Ok(()) => Status::Done,
+            Err(_) => {
+                let _ = notes.line("write fault");
+                Status::WriteFault
+            }
+        },
+        Err(refusal) => refuse(alloc, &refusal, notes),
+    }
+}
+
+fn run_answered<I: Inputs, K: Sink, N: Notes>(
+    alloc: Global,
+    words: &[String],
+    inputs: &mut I,
+    out: &mut K,
+    notes: &mut N,
+) -> Status
+    ensures same { I.told inputs.new ≡ I.told inputs.old }
+    ensures left { command_of (texts words.now) ≡ None → I.left inputs.new ≡ I.left inputs.old }
+    ensures run { IsRun (I.told inputs.old) (command_of (texts words.now)) (I.faults inputs.old) (I.faults inputs.new) result
+        (change (K.kept out.old) (K.kept out.new) (K.faults out.old) (K.faults out.new))
+        (change (N.kept notes.old) (N.kept notes.new) (N.faults notes.old) (N.faults notes.new)) }
+{
+    let found = answer(alloc, words, inputs);
+    deliver(alloc, found, out, notes)
+}
+
+/// Does all that the program does: reads the files that the words name, writes their development to
+/// `out` or one line to `notes`, and answers the status. The words are those of the command line
+/// without the program's name. The gate is for workers, which do not come yet.
+pub fn run<R: Threads + Sync, I: Inputs, K: Sink, N: Notes, G: Gate>(
+    _rt: &R,
+    alloc: Global,
+    words: &[String],
+    inputs: &mut I,
+    out: &mut K,
+    notes: &mut N,
+    _gate: &G,
+) -> Status
+    ensures told { I.told inputs.new ≡ I.told inputs.old }
+    ensures run { IsRun (I.told inputs.old) (command_of (texts words.now)) (I.faults inputs.old) (I.faults inputs.new) result
+        (change (K.kept out.old) (K.kept out.new) (K.faults out.old) (K.faults out.new))
+        (change (N.kept notes.old) (N.kept notes.new) (N.faults notes.old) (N.faults notes.new)) }
+
+    // What can come, and what each status says of the sink and of the notes.
+    ensures statuses { CanCome result }
+    ensures sink { WritesByStatus result (change (K.kept out.old) (K.kept out.new) (K.faults out.old) (K.faults out.new)) }
+    ensures line { NotesByStatus result (change (N.kept notes.old) (N.kept notes.new) (N.faults notes.old) (N.faults notes.new)) }
+
+    // Exactly the words that ask for no command are refused as such, and then nothing is read.
+    ensures words { (result ≡ Status.Words) ↔ (command_of (texts words.now) ≡ None) }
+    ensures words_left { result ≡ Status.Words → I.left inputs.new ≡ I.left inputs.old }
+    ensures words_count { result ≡ Status.Words → I.faults inputs.new ≡ I.faults inputs.old }
+
+    // A read fault comes exactly where the inputs' count rose or a file of the command is absent, unless memory ran out.
+    ensures read_only { result ≡ Status.ReadFault → Rose (I.faults inputs.old) (I.faults inputs.new) ⊎ Lacks (I.told inputs.old) (command_of (texts words.now)) }
+    ensures read_rose { I.faults inputs.old < I.faults inputs.new → result ≡ Status.ReadFault }
+    ensures read_lacks { Lacks (I.told inputs.old) (command_of (texts words.now)) → (result ≡ Status.ReadFault) ⊎ (result ≡ Status.Memory) }
+
+    // A write fault comes exactly where the sink's count rose.
+    ensures write_only { result ≡ Status.WriteFault → Rose (K.faults out.old) (K.faults out.new) }
+    ensures write_rose { K.faults out.old < K.faults out.new → result ≡ Status.WriteFault }
+
+    // Each status, text and line comes exactly where it is the outcome's.
+    ensures outcome { IfSome (command_of (texts words.now)) (λ command.
+        DoesOutcome (I.told inputs.old) command (I.faults inputs.old) (I.faults inputs.new) result
+        (change (K.kept out.old) (K.kept out.new) (K.faults out.old) (K.faults out.new))
+        (change (N.kept notes.old) (N.kept notes.new) (N.faults notes.old) (N.faults notes.new))) }
+    ensures exactly { IfSome (command_of (texts words.now)) (λ command.
+        CarriesOutEach (I.told inputs.old) command (I.faults inputs.old) (I.faults inputs.new) result
+        (change (K.kept out.old) (K.kept out.new) (K.faults out.old) (K.faults out.new))
+        (change (N.kept notes.old) (N.kept notes.new) (N.faults notes.old) (N.faults notes.new))) }
+{
+    run_answered(alloc, words, inputs, out, notes)
+}

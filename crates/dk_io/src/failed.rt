@@ -1,0 +1,7 @@
+//! The error of the outside.
+use thiserror::Error;
+
+/// A call of the outside failed.
+#[derive(Clone, Copy, Debug, PartialEq, Eq, Error)]
+#[error("a call of the outside failed")]
+pub struct Failed;

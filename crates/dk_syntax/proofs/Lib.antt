@@ -1,0 +1,3 @@
+pub mod FirstOccurrences
+pub mod FormulaLaws
+pub mod TermLaws

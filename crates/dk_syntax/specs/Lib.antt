@@ -1,0 +1,4 @@
+pub mod Depth
+pub mod Order
+pub mod Symbols
+pub mod formers

@@ -1,0 +1,5 @@
+pub mod Terms
+pub mod Clauses
+pub mod Consumer
+pub mod Instances
+pub mod Development

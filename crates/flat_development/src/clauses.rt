@@ -1,0 +1,89 @@
+//! The translations of literals and clauses, and the types of the variables that stand for them.
+ghost use Rattle.std.specs.Prelude.{◌≡◌, IfOk};
+ghost use Rattle.flat_development.specs.Clauses.{atom_identifier, atom_term, clause_term, hypothesis_types, literal_term, literal_type, literal_types, signed};
+
+use crate::terms::{disjunction, falsity};
+use dk_syntax::{Kind, Name, NoMemory, Seq, SymKey};
+use flat_text::{Hypothesis, Literal};
+use lp_term::{Ident, Lp, ident_of, negation, proof_type};
+use std::alloc::Global;
+
+/// The identifier of an atom.
+pub fn atom_identifier(alloc: Global, atom: &Name) -> Result<Ident, NoMemory>
+    ensures { IfOk result (λ ident. ident ≡ atom_identifier atom.now) }
+{
+    let symbol = SymKey {
+        name: atom.copy(alloc)?,
+        arity: 0,
+        kind: Kind::Predicate,
+    };
+    ident_of(alloc, &symbol)
+}
+
+/// The symbol of an atom.
+pub fn atom_term(alloc: Global, atom: &Name) -> Result<Lp, NoMemory>
+    ensures { IfOk result (λ t. t ≡ atom_term atom.now) }
+{
+    Ok(Lp::Sym(atom_identifier(alloc, atom)?))
+}
+
+/// A proposition, or its negation.
+fn signed(alloc: Global, positive: bool, p: Lp) -> Result<Lp, NoMemory>
+    ensures { IfOk result (λ t. t ≡ signed positive p) }
+{
+    if positive { Ok(p) } else { negation(alloc, p) }
+}
+
+/// The translation of a literal.
+pub fn literal_term(alloc: Global, literal: &Literal) -> Result<Lp, NoMemory>
+    ensures { IfOk result (λ t. t ≡ literal_term literal.now) }
+{
+    let atom = atom_term(alloc, &literal.atom)?;
+    signed(alloc, literal.positive, atom)
+}
+
+/// The translation of a clause.
+pub fn clause_term(alloc: Global, clause: &[Literal]) -> Result<Lp, NoMemory>
+    ensures { IfOk result (λ t. t ≡ clause_term clause.now) }
+{
+    let Some((first, rest)) = clause.split_first() else {
+        return falsity(alloc);
+    };
+    let mut all = literal_term(alloc, first)?;
+    for literal in rest {
+        let last = literal_term(alloc, literal)?;
+        all = disjunction(alloc, all, last)?;
+    }
+    Ok(all)
+}
+
+/// The type of the variable that stands for a literal.
+pub fn literal_type(alloc: Global, literal: &Literal) -> Result<Lp, NoMemory>
+    ensures { IfOk result (λ t. t ≡ literal_type literal.now) }
+{
+    let atom = atom_term(alloc, &literal.atom)?;
+    proof_type(alloc, signed(alloc, !literal.positive, atom)?)
+}
+
+/// The types of the variables that stand for a clause's literals.
+pub fn literal_types(alloc: Global, clause: &[Literal]) -> Result<Seq<Lp>, NoMemory>
+    ensures { IfOk result (λ types. types ≡ literal_types clause.now) }
+{
+    let mut types = Seq::from_vec(Vec::new(alloc));
+    for literal in clause {
+        types.push(literal_type(alloc, literal)?)?;
+    }
+    Ok(types)
+}
+
+/// The types of the variables that stand for hypotheses.
+pub fn hypothesis_types(alloc: Global, hypotheses: &[Hypothesis]) -> Result<Seq<Lp>, NoMemory>
+    ensures { IfOk result (λ types. types ≡ hypothesis_types hypotheses.now) }
+{
+    let mut types = Seq::from_vec(Vec::new(alloc));
+    for hypothesis in hypotheses {
+        let clause = clause_term(alloc, hypothesis.clause.as_slice())?;
+        types.push(proof_type(alloc, clause)?)?;
+    }
+    Ok(types)
+}

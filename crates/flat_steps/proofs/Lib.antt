@@ -1,0 +1,9 @@
+pub mod Cuttings
+pub mod Orders
+pub mod LeastPairs
+pub mod Pivots
+pub mod Walks
+pub mod VerdictLaws
+pub mod PlanLaws
+pub mod BaseLaws
+pub mod TaskLaws

@@ -1,0 +1,110 @@
+//! The least justification of a clause by its parents' clauses.
+ghost use Rattle.std.specs.Prelude.{◌≡◌, ◌<◌, length, map, All, IfOk};
+ghost use Rattle.flat_steps.specs.Candidates.{Works};
+ghost use Rattle.flat_steps.specs.Choices.{IsLeastCandidate, IsSubsumption, IsResolution, IsResolutionBy};
+ghost use Rattle.flat_steps.specs.Verdicts.{clause_at};
+
+use crate::cutting::subsuming;
+use crate::justification::Candidate;
+use crate::pairs::{Pair, least_pair};
+use crate::picks::number;
+use dk_syntax::NoMemory;
+use flat_text::{Literal, Step};
+use std::alloc::Global;
+
+/// The clause of the step at a place.
+pub fn clause_of_step(steps: &[Step], place: u32) -> &[Literal]
+    requires { place < length steps.now }
+    ensures { result.now ≡ clause_at steps.now place }
+{
+    steps[place as usize].clause.as_slice()
+}
+
+/// The least subsumption.
+fn least_subsumption(
+    alloc: Global,
+    target: &[Literal],
+    steps: &[Step],
+    parents: &[u32],
+) -> Result<Option<Candidate>, NoMemory>
+    requires { All (λ parent. parent < length steps.now) parents.now }
+    ensures { IfOk result (λ answer. IsLeastCandidate (λ c. Works target.now (map (clause_at steps.now) parents.now) c × IsSubsumption c) answer) }
+{
+    for parent in 0..parents.len() {
+        let found = subsuming(alloc, target, clause_of_step(steps, parents[parent]))?;
+        if let Some(picks) = found {
+            let place = number(parent)?;
+            return Ok(Some(Candidate::Subsume(place, picks)));
+        }
+    }
+    Ok(None)
+}
+
+/// The least resolution with that positive parent.
+fn least_resolution_by(
+    alloc: Global,
+    target: &[Literal],
+    steps: &[Step],
+    parents: &[u32],
+    positive: usize,
+) -> Result<Option<Candidate>, NoMemory>
+    requires within { All (λ parent. parent < length steps.now) parents.now }
+    requires stands { positive < length parents.now }
+    ensures { IfOk result (λ answer. IsLeastCandidate (λ c. Works target.now (map (clause_at steps.now) parents.now) c × IsResolutionBy positive c) answer) }
+{
+    for negative in 0..parents.len() {
+        let found = least_pair(
+            alloc,
+            target,
+            clause_of_step(steps, parents[positive]),
+            clause_of_step(steps, parents[negative]),
+        )?;
+        if let Some(pair) = found {
+            let first = number(positive)?;
+            let second = number(negative)?;
+            let Pair {
+                positive: picks,
+                negative: others,
+            } = pair;
+            return Ok(Some(Candidate::Resolve(first, second, picks, others)));
+        }
+    }
+    Ok(None)
+}
+
+/// The least resolution.
+fn least_resolution(
+    alloc: Global,
+    target: &[Literal],
+    steps: &[Step],
+    parents: &[u32],
+) -> Result<Option<Candidate>, NoMemory>
+    requires { All (λ parent. parent < length steps.now) parents.now }
+    ensures { IfOk result (λ answer. IsLeastCandidate (λ c. Works target.now (map (clause_at steps.now) parents.now) c × IsResolution c) answer) }
+{
+    for positive in 0..parents.len() {
+        let found = least_resolution_by(alloc, target, steps, parents, positive)?;
+        if let Some(candidate) = found {
+            return Ok(Some(candidate));
+        }
+    }
+    Ok(None)
+}
+
+/// The least justification, where there is one.
+pub fn least_justification(
+    alloc: Global,
+    target: &[Literal],
+    steps: &[Step],
+    parents: &[u32],
+) -> Result<Option<Candidate>, NoMemory>
+    requires { All (λ parent. parent < length steps.now) parents.now }
+    ensures { IfOk result (λ answer. IsLeastCandidate (Works target.now (map (clause_at steps.now) parents.now)) answer) }
+{
+    let found = least_subsumption(alloc, target, steps, parents)?;
+    if let Some(candidate) = found {
+        return Ok(Some(candidate));
+    }
+    let other = least_resolution(alloc, target, steps, parents)?;
+    Ok(other)
+}

@@ -1,0 +1,9 @@
+pub mod Layers
+pub mod Longest
+pub mod Spelled
+pub mod Naming
+pub mod Found
+pub mod Only
+pub mod Told
+pub mod TraceLaws
+pub mod TextLaws

@@ -1,0 +1,11 @@
+pub mod ConnectiveRules
+pub mod ConversionLaws
+pub mod GrammarLaws
+pub mod IdentifierLaws
+pub mod IntroductionRules
+pub mod PreludeLaws
+pub mod QuantifierRules
+pub mod ScopeLaws
+pub mod SubstitutionLaws
+pub mod TypingLaws
+pub mod ViewLaws

@@ -1,0 +1,17 @@
+pub mod ConnectiveLaws
+pub mod Connectives
+pub mod Conversion
+pub mod Identifiers
+pub mod LambdaPi
+pub mod Names
+pub mod Prelude
+pub mod ProofTerms
+pub mod Reserved
+pub mod Scope
+pub mod Signature
+pub mod Substitution
+pub mod Terms
+pub mod TheoryLaws
+pub mod Typing
+pub mod View
+pub mod Weights

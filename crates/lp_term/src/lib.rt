@@ -1,0 +1,31 @@
+//! Terms of the lambda-Pi-calculus modulo, commands and developments, the identifiers of symbols and
+//! the prelude.
+//!
+//! A variable is the number of binders between it and its own binder. Contracts see an `Ident` as its
+//! bytes and a term as the tree that it is, so `≡` is equality of trees. `ident_of` answers what
+//! `identifier_of` defines, which no two symbols share; `prelude` answers the list of that name,
+//! `subst` answers `substituted`. Each asks nothing but memory.
+//!
+//! A term's drop is a loop: it takes no memory and a fixed depth of stack. Copies, `lift` and `subst`
+//! are linear in what they read and answer, and take a depth of stack that grows with the term's.
+#![tactic(auto)]
+
+mod build;
+mod command;
+mod ident;
+mod identifier;
+pub mod laws;
+mod lp;
+mod replace;
+mod rules;
+mod start;
+#[cfg(test)]
+mod tests;
+
+pub use build::{apply, apply_both, arrow, lambda, negation, pattern, product, proof_type, symbol};
+pub use command::{Command, Dev};
+pub use ident::Ident;
+pub use identifier::ident_of;
+pub use lp::Lp;
+pub use replace::{lift, subst};
+pub use start::prelude;

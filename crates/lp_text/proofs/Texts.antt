@@ -1,0 +1,17 @@
+-- What the proofs on texts share.
+use Rattle.std.proofs.Common.{◌≡◌, ℕ, ◌+◌, List, [], ◌∷◌, ◌++◌, append_assoc, append-nil, arith}
+use Rattle.std.proofs.lemmas.Grind.{common_steps}
+use Rattle.lp_term.specs.declared.Lp.{the_lemmas as of_terms}
+use Rattle.lp_text.specs.Pieces.{piece_text, piece_weight, pieces_text, pieces_weight}
+use Rattle.lp_text.specs.declared.piece.Piece.{Piece}
+
+-- what is pushed comes first
+pub pieces_text-push : (pieces : List Piece) (piece : Piece) → pieces_text (pieces ++ piece ∷ []) ≡ piece_text piece ++ pieces_text pieces
+pieces_text-push [] piece = simp append-nil
+pieces_text-push (below ∷ pieces) piece = rw (pieces_text-push pieces piece) (append_assoc (piece_text piece) (pieces_text pieces) (piece_text below))
+
+pub pieces_weight-push : (pieces : List Piece) (piece : Piece) → pieces_weight (pieces ++ piece ∷ []) ≡ piece_weight piece + pieces_weight pieces
+pieces_weight-push [] piece = omega arith
+pieces_weight-push (below ∷ pieces) piece = omega (arith, pieces_weight-push pieces piece)
+
+pub ruleset text_steps = (common_steps, append_assoc, of_terms, pieces_text-push, pieces_weight-push)

@@ -1,0 +1,178 @@
+//! Terms, printed over a stack of what is still to be printed.
+ghost use Rattle.std.specs.Prelude.{◌≡◌, ◌++◌, ◌+◌, ◌<◌, codes, OnOk};
+ghost use Rattle.lp_text.specs.Pieces.{piece_text, piece_weight, pieces_text, pieces_weight, term_weight};
+ghost use Rattle.lp_text.specs.Print.{application_text, arrow_mark, bracketed, define_mark, printed, product_text, term_text};
+
+use crate::bytes::{put, put_binder, put_let, put_variable};
+use crate::shape::{is_atom, is_operand, occurs};
+use dk_syntax::NoMemory;
+use lp_term::Lp;
+use std::alloc::Global;
+
+/// A part of a text. A term stands in a place of a level.
+#[derive(Clone, Copy)]
+enum Piece<'a> {
+    Bytes(&'a [u8]),
+    /// Where it needs no brackets.
+    Bare(&'a Lp, u32),
+    /// Left of an arrow, or as the head of an application.
+    Operand(&'a Lp, u32),
+    /// As an argument.
+    Argument(&'a Lp, u32),
+}
+
+fn add<'a>(rest: &mut Vec<Piece<'a>>, piece: Piece<'a>) -> Result<(), NoMemory>
+    ensures text { OnOk result (pieces_text rest.new.items ≡ piece_text piece.entry ++ pieces_text rest.old.items) }
+    ensures weight { OnOk result (pieces_weight rest.new.items ≡ piece_weight piece.entry + pieces_weight rest.old.items) }
+{
+    rest.push(piece)?;
+    Ok(())
+}
+
+/// `domain), body`, the body one level below.
+fn add_scope<'a>(
+    rest: &mut Vec<Piece<'a>>,
+    domain: &'a Lp,
+    body: &'a Lp,
+    level: u32,
+) -> Result<(), NoMemory>
+    ensures text { OnOk result (pieces_text rest.new.items ≡ term_text domain.now level ++ (codes "), " ++ (term_text body.now (level + 1) ++ pieces_text rest.old.items))) }
+    ensures weight { OnOk result (pieces_weight rest.new.items ≡ term_weight domain.now + 1 + term_weight body.now + pieces_weight rest.old.items) }
+{
+    let inner = level.checked_add(1).ok_or(NoMemory)?;
+    add(rest, Piece::Bare(body, inner))?;
+    add(rest, Piece::Bytes(b"), "))?;
+    add(rest, Piece::Bare(domain, level))
+}
+
+/// `value in`, a newline, and the body one level below.
+fn add_value<'a>(
+    rest: &mut Vec<Piece<'a>>,
+    value: &'a Lp,
+    body: &'a Lp,
+    level: u32,
+) -> Result<(), NoMemory>
+    ensures text { OnOk result (pieces_text rest.new.items ≡ term_text value.now level ++ (codes " in\n" ++ (term_text body.now (level + 1) ++ pieces_text rest.old.items))) }
+    ensures weight { OnOk result (pieces_weight rest.new.items ≡ term_weight value.now + 1 + term_weight body.now + pieces_weight rest.old.items) }
+{
+    let inner = level.checked_add(1).ok_or(NoMemory)?;
+    add(rest, Piece::Bare(body, inner))?;
+    add(rest, Piece::Bytes(b" in\n"))?;
+    add(rest, Piece::Bare(value, level))
+}
+
+fn put_application<'a>(
+    out: &mut Vec<u8>,
+    rest: &mut Vec<Piece<'a>>,
+    function: &'a Lp,
+    argument: &'a Lp,
+    level: u32,
+) -> Result<(), NoMemory>
+    ensures text { OnOk result (out.new.items ++ pieces_text rest.new.items ≡ out.old.items ++ (application_text (printed function.now).parts (printed function.now) (printed argument.now) level ++ pieces_text rest.old.items)) }
+    ensures weight { OnOk result (pieces_weight rest.new.items < 8 + term_weight function.now + term_weight argument.now + pieces_weight rest.old.items) }
+{
+    if let Lp::Lam(domain, body) = function {
+        put_let(out, level)?;
+        add_value(rest, argument, body.get(), level)?;
+        add(rest, Piece::Bytes(b" \xe2\x89\x94 "))?;
+        return add(rest, Piece::Bare(domain.get(), level));
+    }
+    add(rest, Piece::Argument(argument, level))?;
+    add(rest, Piece::Bytes(b" "))?;
+    add(rest, Piece::Operand(function, level))
+}
+
+fn put_product<'a>(
+    out: &mut Vec<u8>,
+    rest: &mut Vec<Piece<'a>>,
+    domain: &'a Lp,
+    body: &'a Lp,
+    level: u32,
+) -> Result<(), NoMemory>
+    ensures text { OnOk result (out.new.items ++ pieces_text rest.new.items ≡ out.old.items ++ (product_text ((printed body.now).occurs 0) (printed domain.now) (printed body.now) level ++ pieces_text rest.old.items)) }
+    ensures weight { OnOk result (pieces_weight rest.new.items < 8 + term_weight domain.now + term_weight body.now + pieces_weight rest.old.items) }
+{
+    if occurs(body, 0)? {
+        put_binder(out, b"\xce\xa0", level)?;
+        return add_scope(rest, domain, body, level);
+    }
+    let inner = level.checked_add(1).ok_or(NoMemory)?;
+    add(rest, Piece::Bare(body, inner))?;
+    add(rest, Piece::Bytes(b" \xe2\x86\x92 "))?;
+    add(rest, Piece::Operand(domain, level))
+}
+
+/// The root of a term; its parts are still to be printed.
+fn put_root<'a>(
+    out: &mut Vec<u8>,
+    rest: &mut Vec<Piece<'a>>,
+    t: &'a Lp,
+    level: u32,
+) -> Result<(), NoMemory>
+    ensures text { OnOk result (out.new.items ++ pieces_text rest.new.items ≡ out.old.items ++ (term_text t.now level ++ pieces_text rest.old.items)) }
+    ensures weight { OnOk result (pieces_weight rest.new.items < term_weight t.now + pieces_weight rest.old.items) }
+{
+    match t {
+        Lp::Sort => put(out, b"TYPE"),
+        Lp::Sym(name) => put(out, name.as_bytes()),
+        Lp::Var(number) => put_variable(out, level.saturating_sub(1).saturating_sub(*number)),
+        Lp::Pat(name) => {
+            put(out, b"$")?;
+            put(out, name.as_bytes())
+        }
+        Lp::App(function, argument) => {
+            put_application(out, rest, function.get(), argument.get(), level)
+        }
+        Lp::Lam(domain, body) => {
+            put_binder(out, b"\xce\xbb", level)?;
+            add_scope(rest, domain.get(), body.get(), level)
+        }
+        Lp::Pi(domain, body) => put_product(out, rest, domain.get(), body.get(), level),
+    }
+}
+
+fn put_bracketed<'a>(
+    out: &mut Vec<u8>,
+    rest: &mut Vec<Piece<'a>>,
+    t: &'a Lp,
+    level: u32,
+    needed: bool,
+) -> Result<(), NoMemory>
+    ensures text { OnOk result (out.new.items ++ pieces_text rest.new.items ≡ out.old.items ++ (bracketed needed (term_text t.now level) ++ pieces_text rest.old.items)) }
+    ensures weight { OnOk result (pieces_weight rest.new.items < 3 + term_weight t.now + pieces_weight rest.old.items) }
+{
+    if !needed {
+        return add(rest, Piece::Bare(t, level));
+    }
+    put(out, b"(")?;
+    add(rest, Piece::Bytes(b")"))?;
+    add(rest, Piece::Bare(t, level))
+}
+
+fn put_piece<'a>(
+    out: &mut Vec<u8>,
+    rest: &mut Vec<Piece<'a>>,
+    piece: Piece<'a>,
+) -> Result<(), NoMemory>
+    ensures text { OnOk result (out.new.items ++ pieces_text rest.new.items ≡ out.old.items ++ (piece_text piece.entry ++ pieces_text rest.old.items)) }
+    ensures weight { OnOk result (pieces_weight rest.new.items < piece_weight piece.entry + pieces_weight rest.old.items) }
+{
+    match piece {
+        Piece::Bytes(bytes) => put(out, bytes),
+        Piece::Bare(t, level) => put_root(out, rest, t, level),
+        Piece::Operand(t, level) => put_bracketed(out, rest, t, level, !is_operand(t)),
+        Piece::Argument(t, level) => put_bracketed(out, rest, t, level, !is_atom(t)),
+    }
+}
+
+/// Appends the text of a term in a place of that level.
+pub(crate) fn put_term(alloc: Global, out: &mut Vec<u8>, t: &Lp, level: u32) -> Result<(), NoMemory>
+    ensures { OnOk result (out.new.items ≡ out.old.items ++ term_text t.now level) }
+{
+    let mut rest = Vec::new(alloc);
+    add(&mut rest, Piece::Bare(t, level))?;
+    while let Some(piece) = rest.pop() {
+        put_piece(out, &mut rest, piece)?;
+    }
+    Ok(())
+}

@@ -1,0 +1,11 @@
+pub mod Bindings
+pub mod Consumers
+pub mod Drinkers
+pub mod Eigenvariables
+pub mod Formulas
+pub mod Instances
+pub mod Laws
+pub mod Lists
+pub mod Symbols
+pub mod ThinTrees
+pub mod Translation

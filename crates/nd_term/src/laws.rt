@@ -1,0 +1,24 @@
+//! Laws of the proof terms. Each function's contract is a law; the bodies do nothing.
+ghost use Rattle.nd_term.specs.Laws.{ConsumerTyped, NegativeDrinkerTyped, PositiveDrinkerTyped, ResolutionTyped, SentenceTyped, SubsumptionTyped};
+
+/// Translations are propositions.
+pub fn translations_are_typed()
+    ensures { SentenceTyped }
+{}
+
+/// The drinker terms have their types.
+pub fn drinkers_are_typed()
+    ensures positive { PositiveDrinkerTyped }
+    ensures negative { NegativeDrinkerTyped }
+{}
+
+/// Consumers prove falsity.
+pub fn consumers_are_typed()
+    ensures { ConsumerTyped }
+{}
+
+/// The terms of subsumption and resolution prove falsity.
+pub fn instances_are_typed()
+    ensures subsumption { SubsumptionTyped }
+    ensures resolution { ResolutionTyped }
+{}

@@ -1,0 +1,12 @@
+pub mod BoolLaws
+pub mod Counting
+pub mod FirstNumbers
+pub mod FormEquations
+pub mod FormInduction
+pub mod FormulaEquations
+pub mod ListTotals
+pub mod LoweringLaws
+pub mod PutValue
+pub mod SoundLists
+pub mod Steps
+pub mod TruthLaws

@@ -1,0 +1,9 @@
+pub mod ClauseLists
+pub mod ClauseTruth
+pub mod Existentials
+pub mod Faults
+pub mod Lowered
+pub mod Normal
+pub mod Occurrence
+pub mod Renaming
+pub mod Truth

@@ -1,0 +1,36 @@
+-- New numbers for variables.
+use Rattle.std.specs.Prelude.{ℕ, ◌+◌, nat_eq, if◌then◌else◌, List, [], ◌∷◌, get_or, map}
+use Rattle.dk_syntax.specs.declared.Literal.{Literal}
+use Rattle.dk_syntax.specs.declared.Term.{Term, Term-F, fold-Term}
+use Rattle.dk_syntax.specs.declared.Term.TheOpen as term
+use Rattle.dk_syntax.specs.declared.Term.TheVariants.{Any, App, Var}
+use Rattle.normal_form.specs.declared.rename.Naming.{Naming}
+use Rattle.normal_form.specs.declared.rename.Naming.TheVariants.{Owner, Place}
+
+-- a term with new numbers, from its arguments with them
+abbrev pub renamed_at : (ℕ → ℕ) → Term-F Term → Term
+renamed_at new (term.Var n) = Var (new n)
+renamed_at new (term.App symbol args) = App symbol args
+renamed_at new term.Any = Any
+
+-- the term with a new number for each variable
+abbrev pub renamed : (ℕ → ℕ) → Term → Term
+renamed new = fold-Term Term (renamed_at new)
+
+-- the literal with a new number for each variable
+abbrev pub renamed_literal : (ℕ → ℕ) → Literal → Literal
+renamed_literal new literal = record { positive = literal.positive; pred = literal.pred; args = map (renamed new) literal.args }
+
+-- the universal that a variable belongs to, where those around it are listed, the inmost first
+abbrev pub owner : List ℕ → ℕ → ℕ
+owner around n = get_or around n 0
+
+-- how many numbers stand before the first n, or how many stand there at all
+abbrev pub place_of : List ℕ → ℕ → ℕ
+place_of [] n = 0
+place_of (m ∷ rest) n = if nat_eq m n then 0 else 1 + place_of rest n
+
+-- the two ways to find a variable's new number in a list
+abbrev pub new_number : Naming → List ℕ → ℕ → ℕ
+new_number Owner = owner
+new_number Place = place_of

@@ -1,0 +1,31 @@
+//! Signed normal forms of formulas, and the clause lists of forms without existentials.
+//!
+//! A normal form has its negations at its atoms, no implication or equivalence, and no quantifier whose
+//! variable doesn't occur. A clause list has the form's clauses in order, each with the universals of its
+//! variables and the sides taken at the conjunctions. Both are given by cases in `specs/`, and both mean
+//! what they come from: in every interpretation the form is true exactly where the formula with the sign is,
+//! and each clause is true wherever the form is.
+//!
+//! Sizes are counted before anything is built, in time linear in the formula or form, but that at each
+//! quantifier the body is searched for its variable, and at each disjunction the clauses of its sides are
+//! counted. Building takes time linear in the form, which is copied once for each quantifier that is
+//! dropped around it, or in the list with the rows of its parts. All goes down the trees by recursion.
+#![tactic(auto)]
+
+mod clause_list;
+mod count;
+mod form;
+mod lower;
+mod numbering;
+mod occurs;
+mod raw;
+mod rename;
+mod signed_form;
+mod totals;
+
+pub use clause_list::{ClauseFault, ClauseList, ClauseRow, clauses, clauses_follow};
+pub use form::{Nf, has_exists, nf_eq};
+pub use signed_form::{NfFault, keeps_truth, normal};
+
+#[cfg(test)]
+mod tests;

@@ -1,0 +1,166 @@
+//! Worked rows.
+use super::*;
+use dk_syntax::{Boxed, Formula, Kind, Name, NoMemory, Seq, SymKey, Term};
+use std::alloc::Global;
+use std::test::Fail;
+
+fn atom(alloc: Global, name: &str, args: Vec<Term>) -> Result<Formula, NoMemory> {
+    let name = Name::new(Vec::from_slice(alloc, name.as_bytes())?);
+    let symbol = SymKey {
+        name,
+        arity: 0,
+        kind: Kind::Predicate,
+    };
+    Ok(Formula::Atom(symbol, Seq::from_vec(args)))
+}
+
+fn plain(alloc: Global, name: &str) -> Result<Formula, NoMemory> {
+    atom(alloc, name, Vec::new(alloc))
+}
+
+fn iff(alloc: Global, a: Formula, b: Formula) -> Result<Formula, NoMemory> {
+    Ok(Formula::Iff(Boxed::new(alloc, a)?, Boxed::new(alloc, b)?))
+}
+
+fn or(alloc: Global, a: Formula, b: Formula) -> Result<Formula, NoMemory> {
+    Ok(Formula::Or(Boxed::new(alloc, a)?, Boxed::new(alloc, b)?))
+}
+
+fn all(alloc: Global, a: Formula) -> Result<Formula, NoMemory> {
+    Ok(Formula::All(Boxed::new(alloc, a)?))
+}
+
+// p, p<=>p, p<=>(p<=>p), ..
+fn tower(alloc: Global, height: u32) -> Result<Formula, NoMemory> {
+    let mut formula = plain(alloc, "p")?;
+    for _ in 0..height {
+        formula = iff(alloc, plain(alloc, "p")?, formula)?;
+    }
+    Ok(formula)
+}
+
+// q|(q|(q|q)) to the right of a tower
+fn wide(alloc: Global) -> Result<Formula, NoMemory> {
+    let mut formula = plain(alloc, "q")?;
+    for _ in 0..3 {
+        formula = or(alloc, plain(alloc, "q")?, formula)?;
+    }
+    or(alloc, tower(alloc, 12)?, formula)
+}
+
+// p of these arguments under universals
+fn closed(alloc: Global, args: Vec<Term>, universals: u32) -> Result<Formula, NoMemory> {
+    let mut formula = atom(alloc, "p", args)?;
+    for _ in 0..universals {
+        formula = all(alloc, formula)?;
+    }
+    Ok(formula)
+}
+
+fn node_fault(alloc: Global, height: u32) -> Result<Option<NfFault>, NoMemory> {
+    Ok(normal(alloc, true, &tower(alloc, height)?).err())
+}
+
+fn list_fault(alloc: Global, formula: &Formula) -> Result<Option<ClauseFault>, NfFault> {
+    let form = normal(alloc, true, formula)?;
+    Ok(clauses(alloc, &form).err())
+}
+
+fn list_of(alloc: Global, sign: bool, formula: &Formula) -> Result<ClauseList, Fail> {
+    let form = normal(alloc, sign, formula)?;
+    Ok(clauses(alloc, &form)?)
+}
+
+// the form of p of one variable under universals
+fn form_of(alloc: Global, sign: bool, variable: u32, universals: u32) -> Result<Nf, Fail> {
+    let formula = closed(alloc, vec![in alloc; Term::Var(variable)]?, universals)?;
+    Ok(normal(alloc, sign, &formula)?)
+}
+
+// the one row has these universals
+fn has_quants(list: &ClauseList, quants: &[u32]) -> bool {
+    list.rows.len() == 1
+        && list
+            .rows
+            .as_slice()
+            .iter()
+            .all(|row| row.quants.as_slice() == quants)
+}
+
+// for each row a sign and a name for each literal, then a letter for each side taken
+fn shown(alloc: Global, list: &ClauseList) -> Result<Vec<u8>, NoMemory> {
+    let mut text = Vec::new(alloc);
+    for row in list.rows.as_slice() {
+        show_row(&mut text, row)?;
+    }
+    Ok(text)
+}
+
+fn show_row(text: &mut Vec<u8>, row: &ClauseRow) -> Result<(), NoMemory> {
+    for literal in row.clause.lits.as_slice() {
+        text.push(if literal.positive { b'+' } else { b'-' })?;
+        text.extend_from_slice(literal.pred.name.as_bytes())?;
+    }
+    for right in row.picks.as_slice() {
+        text.push(if *right { b'R' } else { b'L' })?;
+    }
+    Ok(())
+}
+
+#[test]
+fn sizes(rt: HostRuntime) -> Result<(), Fail> {
+    for (height, nodes) in [
+        (15, 196_603),
+        (60, 6_917_529_027_641_081_851),
+        (70, 18_446_744_073_709_551_615),
+    ] {
+        let fault = node_fault(rt.alloc(), height)?;
+        assert!(rt; fault == Some(NfFault::TooLarge { nodes }), "{height}");
+    }
+    let many = list_fault(rt.alloc(), &tower(rt.alloc(), 13)?)?;
+    assert!(rt; many == Some(ClauseFault::TooManyClauses { count: 8192 }));
+    let long = list_fault(rt.alloc(), &wide(rt.alloc())?)?;
+    assert!(rt; long == Some(ClauseFault::TooManyLiterals { count: 69632 }));
+    Ok(())
+}
+
+// p<=>q with both signs
+#[test]
+fn both_signs(rt: HostRuntime) -> Result<(), Fail> {
+    let formula = iff(rt.alloc(), plain(rt.alloc(), "p")?, plain(rt.alloc(), "q")?)?;
+    for (sign, text) in [(true, "-p+qL-q+pR"), (false, "+p+qL-p-qR")] {
+        let list = list_of(rt.alloc(), sign, &formula)?;
+        assert_eq!(rt; shown(rt.alloc(), &list)?.as_slice(), text.as_bytes());
+    }
+    Ok(())
+}
+
+// ![X,Y]:p(X) has the form ![X]:p(X)
+#[test]
+fn vacuous_quantifiers(rt: HostRuntime) -> Result<(), Fail> {
+    let form = form_of(rt.alloc(), true, 1, 2)?;
+    let simple = form_of(rt.alloc(), true, 0, 1)?;
+    assert!(rt; nf_eq(&form.copy(rt.alloc())?, &simple));
+    assert!(rt; !has_exists(&form));
+    assert!(rt; has_exists(&form_of(rt.alloc(), false, 1, 2)?));
+    let list = clauses(rt.alloc(), &form)?;
+    assert!(rt; has_quants(&list, &[0]));
+    Ok(())
+}
+
+// in ![X,Y]:p(Y,X) variable 0 is Y, the universal 1
+#[test]
+fn first_occurrence(rt: HostRuntime) -> Result<(), Fail> {
+    let args = vec![in rt.alloc(); Term::Var(0), Term::Var(1)]?;
+    let list = list_of(rt.alloc(), true, &closed(rt.alloc(), args, 2)?)?;
+    assert!(rt; has_quants(&list, &[1, 0]));
+    Ok(())
+}
+
+// of depth 1,000, where all universals but the inmost are dropped
+#[test]
+fn deep(rt: HostRuntime) -> Result<(), Fail> {
+    let form = form_of(rt.alloc(), true, 0, 998)?;
+    assert!(rt; nf_eq(&form, &form_of(rt.alloc(), true, 0, 1)?));
+    Ok(())
+}

@@ -208,3 +208,19 @@ read_lacks told (Some command) before now answer result out notes a d lacks = el
   | inl f ↦ inl (fault_status answer result out notes f d)
   | inr m ↦ inr (memory_status answer result out notes m d)
 ]
+
+-- no refusal ends with status 0
+not_done : (refusal : Refusal) → status_of refusal ≢ status.Done
+not_done Words e = cc
+not_done (ReadFault file) e = cc
+not_done (TooLong file) e = cc
+not_done (Unbuilt file) e = cc
+not_done NoRefutation e = cc
+not_done (Wrong step reason) e = cc
+not_done WriteFault e = cc
+not_done Memory e = cc
+
+pub refusal_not_done : (refusal : Refusal) (result : Status) (notes : Change)
+    → IsRefused refusal result notes ⊎ (NamesStep refusal × IsRefused Memory result notes) → result ≢ status.Done
+refusal_not_done refusal result notes (inl r) done = not_done refusal (sym r.status ∙ done)
+refusal_not_done refusal result notes (inr r) done = not_done Memory (sym r.1.status ∙ done)

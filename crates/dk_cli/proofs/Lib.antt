@@ -1,4 +1,5 @@
 pub mod Carried
 pub mod Developed
 pub mod OneOutcome
+pub mod Proved
 pub mod Unread

@@ -4,6 +4,7 @@ ghost use Rattle.dk_io.specs.Causes.{Rose};
 ghost use Rattle.dk_cli.specs.Commands.{texts, command_of};
 ghost use Rattle.dk_cli.specs.Delivery.{Delivers, IsRefused, change};
 ghost use Rattle.dk_cli.specs.Headline.{CanCome, CarriesOutEach, DoesOutcome, IsRun, Lacks, NotesByStatus, WritesByStatus};
+ghost use Rattle.dk_cli.specs.Proof.{WritesProof};
 ghost use Rattle.dk_cli.specs.Refusals.{NamesStep};
 ghost use Rattle.dk_cli.specs.Steps.{answer_view};
 
@@ -109,6 +110,10 @@ pub fn run<R: Threads + Sync, I: Inputs, K: Sink, N: Notes, G: Gate>(
     // A write fault comes exactly where the sink's count rose.
     ensures write_only { result ≡ Status.WriteFault → Rose (K.faults out.old) (K.faults out.new) }
     ensures write_rose { K.faults out.old < K.faults out.new → result ≡ Status.WriteFault }
+
+    // With status 0 what was written is a proof of the problem, by the typing rules.
+    ensures proof { result ≡ Status.Done → IfSome (command_of (texts words.now)) (λ command.
+        WritesProof (I.told inputs.old) command (change (K.kept out.old) (K.kept out.new) (K.faults out.old) (K.faults out.new))) }
 
     // Each status, text and line comes exactly where it is the outcome's.
     ensures outcome { IfSome (command_of (texts words.now)) (λ command.

@@ -1,7 +1,13 @@
+pub mod AtomLaws
+pub mod BaseClauses
 pub mod BodyViews
 pub mod ClauseViews
 pub mod ConsumerViews
 pub mod InstanceViews
 pub mod LetViews
+pub mod PickLaws
+pub mod PlanJoins
+pub mod PlanTyping
 pub mod SignatureViews
 pub mod SymbolLaws
+pub mod VisitLaws

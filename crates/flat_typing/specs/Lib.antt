@@ -1,4 +1,5 @@
 pub mod Joined
 pub mod Laws
 pub mod Levels
+pub mod PlanTypes
 pub mod Translation

@@ -20,12 +20,6 @@ pub enum NfFault {
     Memory,
 }
 
-impl From<NoMemory> for NfFault {
-    fn from(_: NoMemory) -> NfFault {
-        NfFault::Memory
-    }
-}
-
 /// The normal form of a formula with the sign, true for the positive one. Its nodes are counted
 /// before any is built, and the form is true exactly where the signed formula is.
 pub fn normal(alloc: Global, sign: bool, f: &Formula) -> Result<Nf, NfFault>

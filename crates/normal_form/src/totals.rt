@@ -1,7 +1,7 @@
 //! Sizes of clause lists, counted without building them.
 #![tactic(auto, using(crate::proofs::ListTotals::total_steps))]
 
-ghost use Rattle.std.specs.Prelude.{◌≡◌, ◌*◌, ℕ, List, [], IsTrue};
+ghost use Rattle.std.specs.Prelude.{◌≡◌, ◌*◌, ◌↔◌, ℕ, List, [], IsTrue};
 ghost use Rattle.dk_syntax.specs.Depth.{capped};
 ghost use Rattle.normal_form.specs.ClauseLists.{rows_of, totals};
 
@@ -61,7 +61,8 @@ fn product(a: u64, b: u64) -> u64
 
 /// Whether the list has no clause, though a part of the form may have many.
 pub fn lists_nothing(nf: &Nf) -> bool
-    ensures { IsTrue result → (next : ℕ) (around : List ℕ) → (rows_of nf.now).1 next around ≡ [] }
+    ensures count { IsTrue result ↔ ((totals nf.now).0 ≡ 0) }
+    ensures rows { IsTrue result → (next : ℕ) (around : List ℕ) → (rows_of nf.now).1 next around ≡ [] }
 {
     count_rows(nf).clauses == 0
 }

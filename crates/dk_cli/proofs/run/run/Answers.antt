@@ -1,4 +1,5 @@
 use Rattle.dk_cli.proofs.Carried.{can_come, notes_by, read_lacks, read_rose, some_carries, some_does, words_count, words_if, words_only, writes_by}
+use Rattle.dk_cli.proofs.Proved.{writes_proof}
 use Rattle.dk_cli.proofs.run.run.Goals as goal
 
 pub returns-clause-statuses : goal.returns-clause-statuses
@@ -36,3 +37,6 @@ returns-clause-read_rose g c = λ rose. let run = c.run_answered.ensures.run in 
 
 pub returns-clause-read_lacks : goal.returns-clause-read_lacks
 returns-clause-read_lacks g c = λ lacks. let run = c.run_answered.ensures.run in read_lacks _ _ _ _ run.answer _ _ _ run.answers run.delivers lacks
+
+pub returns-clause-proof : goal.returns-clause-proof
+returns-clause-proof g c = λ done. let run = c.run_answered.ensures.run in writes_proof _ _ _ _ run.answer _ _ _ run.answers run.delivers done

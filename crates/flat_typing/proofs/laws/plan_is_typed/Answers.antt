@@ -1,0 +1,8 @@
+use Rattle.flat_typing.proofs.PlanTyping.{plan_closed, plan_typed}
+use Rattle.flat_typing.proofs.laws.plan_is_typed.Goals as goal
+
+pub returns-clause-typed : goal.returns-clause-typed
+returns-clause-typed c = λ hypotheses steps instances earlier is. plan_typed hypotheses steps instances earlier is
+
+pub returns-clause-closed : goal.returns-clause-closed
+returns-clause-closed c = λ hypotheses steps instances earlier is. plan_closed hypotheses steps instances earlier is

@@ -88,3 +88,19 @@ pub or_map : (a b x y : Bool) → (a ≡ true → x ≡ true) → (b ≡ true �
 or_map true b x y f g e = ap (λ z. z || y) (f refl)
 or_map false b true y f g e = refl
 or_map false b false y f g e = g e
+
+pub or_of_left : (a b : Bool) → a ≡ true → a || b ≡ true
+or_of_left true b e = refl
+or_of_left false b e = absurd (cc)
+
+pub or_of_right : (a b : Bool) → b ≡ true → a || b ≡ true
+or_of_right true b e = refl
+or_of_right false b e = e
+
+pub or_only_left : (a b : Bool) → a || b ≡ true → b ≡ false → a ≡ true
+or_only_left true b e f = refl
+or_only_left false b e f = absurd (cc)
+
+pub or_false : (a : Bool) → a || false ≡ a
+or_false true = refl
+or_false false = refl

@@ -1,3 +1,4 @@
+pub mod AgreeingValues
 pub mod BoolLaws
 pub mod Counting
 pub mod FirstNumbers
@@ -6,7 +7,9 @@ pub mod FormInduction
 pub mod FormulaEquations
 pub mod ListTotals
 pub mod LoweringLaws
+pub mod NumberedRows
 pub mod PutValue
 pub mod SoundLists
 pub mod Steps
+pub mod SufficientLists
 pub mod TruthLaws

@@ -26,11 +26,11 @@ module _ {D : Type 0} (i : Interpretation D) (w : ℕ → D) where
   clause-append [] ys = refl
   clause-append (x ∷ xs) ys = ap (λ z. literal_truth i w x || z) (clause-append xs ys) ∙ or_left_step (literal_truth i w x) (clause_truth i w xs) (clause_truth i w ys)
 
-  rows-append : (xs ys : List Raw) → rows_truth i w (xs ++ ys) ≡ rows_truth i w xs && rows_truth i w ys
+  pub rows-append : (xs ys : List Raw) → rows_truth i w (xs ++ ys) ≡ rows_truth i w xs && rows_truth i w ys
   rows-append [] ys = refl
   rows-append (x ∷ xs) ys = ap (λ z. clause_truth i w x.lits && z) (rows-append xs ys) ∙ and_step (clause_truth i w x.lits) (rows_truth i w xs) (rows_truth i w ys)
 
-  rows-taking : (side : Bool) (xs : List Raw) → rows_truth i w (map (taking side) xs) ≡ rows_truth i w xs
+  pub rows-taking : (side : Bool) (xs : List Raw) → rows_truth i w (map (taking side) xs) ≡ rows_truth i w xs
   rows-taking side [] = refl
   rows-taking side (x ∷ xs) = ap (λ z. clause_truth i w x.lits && z) (rows-taking side xs)
 
@@ -38,7 +38,7 @@ module _ {D : Type 0} (i : Interpretation D) (w : ℕ → D) where
   rows-beside x [] = or_true (clause_truth i w x.lits)
   rows-beside x (y ∷ ys) = ap₂ (λ a b. a && b) (clause-append x.lits y.lits) (rows-beside x ys) ∙ or_and (clause_truth i w x.lits) (clause_truth i w y.lits) (rows_truth i w ys)
 
-  rows-pairs : (xs ys : List Raw) → rows_truth i w (pairs_of xs ys) ≡ rows_truth i w xs || rows_truth i w ys
+  pub rows-pairs : (xs ys : List Raw) → rows_truth i w (pairs_of xs ys) ≡ rows_truth i w xs || rows_truth i w ys
   rows-pairs [] ys = refl
   rows-pairs (x ∷ xs) ys = rows-append (map (beside x) ys) (pairs_of xs ys) ∙ ap₂ (λ a b. a && b) (rows-beside x ys) (rows-pairs xs ys) ∙ and_or (clause_truth i w x.lits) (rows_truth i w xs) (rows_truth i w ys)
 
@@ -55,7 +55,7 @@ module _ {D : Type 0} (i : Interpretation D) (w : ℕ → D) where
       (λ s args h. ap (value i w) (let q : renamed r (App s args) ≡ App s (map (renamed r) args) = search (rules, of_terms) in q) ∙ value-App i w s (map (renamed r) args) ∙ ap (i.function s) (renamed-values r args h) ∙ sym (value-App i (λ n. w (r n)) s args))
       (ap (value i w) (let q : renamed r Any ≡ Any = search (rules, of_terms) in q) ∙ value-Any i w ∙ sym (value-Any i (λ n. w (r n))))
 
-  literal-renamed : (r : ℕ → ℕ) (l : Literal) → literal_truth i w (renamed_literal r l) ≡ literal_truth i (λ n. w (r n)) l
+  pub literal-renamed : (r : ℕ → ℕ) (l : Literal) → literal_truth i w (renamed_literal r l) ≡ literal_truth i (λ n. w (r n)) l
   literal-renamed r l = ap (λ vs. signed l.positive (i.predicate l.pred vs)) (renamed-values r l.args (each_of (RenamedValue r) (renamed-value r) l.args))
 
   next_value : (next : ℕ) (around : List ℕ) (n : ℕ) → with_value (w next) (λ m. w (owner around m)) n ≡ w (owner (next ∷ around) n)
@@ -96,7 +96,7 @@ module _ {D : Type 0} (i : Interpretation D) (w : ℕ → D) where
       (λ a g n r t. ap (λ z. rows_truth i w (z.1 n r)) (let q : rows_of (nf.Ex a) ≡ ((rows_of a).0, λ n r. []) = search (rules, of_forms) in q))
 
   -- numbering the variables is giving each universal the value of its variable
-  clause-renamed : (r : ℕ → ℕ) (lits : List Literal) → clause_truth i w (map (renamed_literal r) lits) ≡ clause_truth i (λ n. w (r n)) lits
+  pub clause-renamed : (r : ℕ → ℕ) (lits : List Literal) → clause_truth i w (map (renamed_literal r) lits) ≡ clause_truth i (λ n. w (r n)) lits
   clause-renamed r [] = refl
   clause-renamed r (l ∷ rest) = ap₂ (λ a b. a || b) (literal-renamed r l) (clause-renamed r rest)
 

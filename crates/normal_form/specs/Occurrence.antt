@@ -1,5 +1,5 @@
 -- Which variables occur in terms, formulas and forms.
-use Rattle.std.specs.Prelude.{ℕ, ◌+◌, nat_eq, Bool, false, ◌||◌, List, [], ◌∷◌, map}
+use Rattle.std.specs.Prelude.{◌≡◌, ℕ, ◌+◌, nat_eq, Bool, false, ◌||◌, List, [], ◌∷◌, map}
 use Rattle.dk_syntax.specs.declared.Formula.{Formula, Formula-F, fold-Formula}
 use Rattle.dk_syntax.specs.declared.Formula.TheOpen as formula
 use Rattle.dk_syntax.specs.declared.Term.{Term, Term-F, fold-Term}
@@ -52,3 +52,7 @@ in_form_at (form.Ex a) k = a (k + 1)
 -- variable k occurs in the form
 abbrev pub in_form : Nf → ℕ → Bool
 in_form = fold-Nf (ℕ → Bool) in_form_at
+
+-- no variable is free in the form
+abbrev pub Closed : Nf → Type 0
+Closed a = (n : ℕ) → in_form a n ≡ false

@@ -3,7 +3,7 @@
 
 ghost use Rattle.std.specs.Prelude.{◌≡◌, ◌≤◌, ℕ, map, length, IfErr, IfOk};
 ghost use Rattle.normal_form.specs.ClauseLists.{clause_rows, literal_count, row_of};
-ghost use Rattle.normal_form.specs.ClauseTruth.{ClausesFollow};
+ghost use Rattle.normal_form.specs.ClauseTruth.{ClausesFollow, ClausesSuffice};
 ghost use Rattle.normal_form.specs.Faults.{ListFault};
 
 use crate::form::Nf;
@@ -38,12 +38,13 @@ pub enum ClauseFault {
 }
 
 /// The clause list of a closed form without existentials. Its clauses and literals are counted
-/// before any is built, and each is true wherever the form is.
+/// before any is built. Each is true wherever the form is, and the form wherever all of them are.
 pub fn clauses(alloc: Global, nf: &Nf) -> Result<ClauseList, ClauseFault>
     ensures rows { IfOk result (λ list. list.rows ≡ clause_rows nf.now) }
     ensures clauses { IfOk result (λ list. length list.rows ≤ 4096) }
     ensures literals { IfOk result (λ list. literal_count list.rows ≤ 65536) }
     ensures truth { IfOk result (λ list. ClausesFollow ℕ nf.now list.rows) }
+    ensures suffices { IfOk result (λ list. ClausesSuffice ℕ nf.now list.rows) }
     ensures fault { IfErr result (λ fault. ListFault nf.now fault) }
 {
     let totals = count_rows(nf);
@@ -67,6 +68,12 @@ pub fn clauses(alloc: Global, nf: &Nf) -> Result<ClauseList, ClauseFault>
 pub fn clauses_follow<D>(nf: &Nf, list: &ClauseList)
     requires { list.now.rows ≡ clause_rows nf.now }
     ensures { ClausesFollow D nf.now list.now.rows }
+{}
+
+/// Over each domain, a closed form without existentials is true wherever the clauses of its list are.
+pub fn clauses_suffice<D>(nf: &Nf, list: &ClauseList)
+    requires { list.now.rows ≡ clause_rows nf.now }
+    ensures { ClausesSuffice D nf.now list.now.rows }
 {}
 
 fn build(alloc: Global, nf: &Nf) -> Result<Seq<ClauseRow>, NoMemory>

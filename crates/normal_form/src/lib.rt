@@ -4,7 +4,7 @@
 //! variable doesn't occur. A clause list has the form's clauses in order, each with the universals of its
 //! variables and the sides taken at the conjunctions. Both are given by cases in `specs/`, and both mean
 //! what they come from: in every interpretation the form is true exactly where the formula with the sign is,
-//! and each clause is true wherever the form is.
+//! each clause is true wherever the form is, and a closed form without existentials is wherever its clauses are.
 //!
 //! Sizes are counted before anything is built, in time linear in the formula or form, but that at each
 //! quantifier the body is searched for its variable, and at each disjunction the clauses of its sides are
@@ -23,7 +23,9 @@ mod rename;
 mod signed_form;
 mod totals;
 
-pub use clause_list::{ClauseFault, ClauseList, ClauseRow, clauses, clauses_follow};
+pub use clause_list::{
+    ClauseFault, ClauseList, ClauseRow, clauses, clauses_follow, clauses_suffice,
+};
 pub use form::{Nf, has_exists, nf_eq};
 pub use signed_form::{NfFault, keeps_truth, normal};
 

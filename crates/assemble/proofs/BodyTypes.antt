@@ -98,7 +98,7 @@ module _ (sig : List Declaration) (e : Extends sig) where
   put_each (suc n) x h i zero = h zero
   put_each (suc n) x h i (suc k) = put_each n (λ j. x (suc j)) (λ j. h (suc j)) i k
 
-  goal_prop : {g : List Term} {hs : List Formula} {c : Formula} → Every (λ f. FormulaOver sig f) hs → FormulaOver sig c → HasType sig g (goal_type hs c) type
+  pub goal_prop : {g : List Term} {hs : List Formula} {c : Formula} → Every (λ f. FormulaOver sig f) hs → FormulaOver sig c → HasType sig g (goal_type hs c) type
   goal_prop every_nil o = prf_type sig e (sentence_types sig e o)
   goal_prop (every_cons w ws) o = arrow_type sig e (prf_type sig e (sentence_types sig e w)) (goal_prop ws o)
 

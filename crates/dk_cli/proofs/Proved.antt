@@ -11,7 +11,8 @@ use Rattle.flat_text.proofs.TraceLaws.{trace_has_earlier_parents}
 use Rattle.flat_steps.specs.declared.Instance.{Instance}
 use Rattle.flat_steps.specs.Plan.{IsPlanOf}
 use Rattle.flat_development.specs.Development.{body_of, development_of}
-use Rattle.flat_typing.proofs.PlanTyping.{plan_closed, plan_typed}
+use Rattle.flat_typing.proofs.BodyViews.{view_goal_sorted}
+use Rattle.flat_typing.proofs.PlanTyping.{goal_closed, plan_closed, plan_typed}
 use Rattle.lp_term.specs.declared.Dev.{Dev}
 use Rattle.lp_text.specs.Print.{text_of}
 use Rattle.dk_cli.specs.Answer.{Answers, AnswersCommand}
@@ -29,12 +30,15 @@ plan_is_proof : (trace : List ℕ) (hypotheses : List Hypothesis) (steps : List 
     → IsTrace trace steps → IsPlanOf hypotheses steps (Ok instances) → IsProofOf hypotheses (development_of hypotheses instances)
 plan_is_proof trace hypotheses steps instances spelled plan =
     let earlier = trace_has_earlier_parents trace steps spelled in
-    let closed = plan_closed hypotheses steps instances earlier plan in record {
+    let closed = plan_closed hypotheses steps instances earlier plan in
+    let type_closed = goal_closed hypotheses in record {
       body = body_of hypotheses instances;
       commands = refl;
+      sorted = view_goal_sorted hypotheses;
       typed = plan_typed hypotheses steps instances earlier plan;
       closed = closed.0;
-      declared = closed.1;
+      type_declared = type_closed.1;
+      body_declared = closed.1;
     }
 
 -- a text is that of a proof of the problem that was read

@@ -6,6 +6,7 @@ use Rattle.dk_io.specs.Outside.{Told}
 use Rattle.flat_text.specs.declared.Hypothesis.{Hypothesis}
 use Rattle.flat_text.specs.Forms.{IsProblem}
 use Rattle.flat_development.specs.Development.{constants_of, goal_type}
+use Rattle.lp_term.specs.LambdaPi.{type}
 use Rattle.lp_term.specs.Prelude.{prelude}
 use Rattle.lp_term.specs.Scope.{Declared, VariablesBelow}
 use Rattle.lp_term.specs.Signature.{declarations}
@@ -28,12 +29,15 @@ pub record IsProofOf (hypotheses : List Hypothesis) (development : Dev) : Type 0
   pub body : Lp
   -- the prelude, one constant for each atom by first occurrence, and the one definition `goal`
   pub commands : development.commands ≡ prelude ++ constants_of hypotheses ++ Define (codes "goal") (goal_type hypotheses) body ∷ []
-  -- the body has the problem's type, in the signature of the commands before it and the empty context
+  -- the problem's type is a type, in the signature of the commands before `goal` and the empty context
+  pub sorted : HasType (signature_for hypotheses) [] (term_of (goal_type hypotheses)) type
+  -- the body has the problem's type, there too
   pub typed : HasType (signature_for hypotheses) [] (term_of body) (term_of (goal_type hypotheses))
-  -- no variable is free in it
+  -- no variable is free in the body
   pub closed : VariablesBelow 0 (term_of body)
-  -- each symbol in it is one of the prelude's or one of the problem's
-  pub declared : Declared (signature_for hypotheses) (term_of body)
+  -- each symbol in the type and in the body is one of the prelude's or one of the problem's
+  pub type_declared : Declared (signature_for hypotheses) (term_of (goal_type hypotheses))
+  pub body_declared : Declared (signature_for hypotheses) (term_of body)
 
 -- Where the inputs tell their bytes, the sink has one development more, and it is a proof of the problem
 -- that the bytes of the command's first file are.

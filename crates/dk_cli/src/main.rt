@@ -1,4 +1,10 @@
-//! Reads a problem and a refutation of it and writes a development whose `goal` has the problem's type.
+//! The program: reads a problem and a refutation of it and writes a development whose `goal` has the
+//! problem's type.
+//!
+//! `run` does all of it, over words, inputs, a sink and notes that its caller gives; `main` gives the
+//! real ones. What it answers is `IsOutcome` (specs/Outcome), how it is delivered `Delivers`
+//! (specs/Delivery), what a caller may rely on stands in specs/Headline and specs/Proof. Time may grow
+//! with the square of the number of steps, memory grows with the text.
 #![tactic(auto)]
 
 mod answer;

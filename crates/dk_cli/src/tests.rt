@@ -203,6 +203,12 @@ fn each_call_of_the_outside_may_fail(rt: HostRuntime) -> Result<(), Fail> {
     assert!(rt; whole.status == Status::Done && whole.notes.is_empty());
     assert!(rt; whole.out.as_slice().ends_with(WRITTEN.as_bytes()));
 
+    // The last newline of the trace may lack.
+    let trace = joined(rt.alloc(), &[LEAVES, END])?;
+    let cut = trace.as_str().get(..112).ok_or("shorter")?;
+    let found = run_on(&rt, &["convert", "p", "t"], PROBLEM, cut.as_bytes(), SOUND)?;
+    assert!(rt; found.out.as_slice().ends_with(WRITTEN.as_bytes()));
+
     // A start and two reads for each of the two files.
     for (call, line) in [(1, "problem"), (3, "problem"), (4, "trace"), (6, "trace")] {
         let found = run_outside(

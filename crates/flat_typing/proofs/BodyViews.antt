@@ -6,7 +6,7 @@ use Rattle.flat_development.specs.Terms.{abstractions, falsity as program_falsit
 use Rattle.flat_development.specs.Clauses.{clause_type, hypothesis_type, hypothesis_types}
 use Rattle.flat_development.specs.Development.{with_hypotheses, body_of, by_contradiction, conclusion, excluded_middle, constants_of, goal_type}
 use Rattle.flat_development.specs.Instances.{instance_level, instance_term, lets}
-use Rattle.lp_term.specs.LambdaPi.{Term, app, lam, shift, var}
+use Rattle.lp_term.specs.LambdaPi.{Term, app, lam, shift, type, var}
 use Rattle.lp_term.specs.Names.{em_name}
 use Rattle.lp_term.specs.Connectives.{bot, neg, proof_of}
 use Rattle.lp_term.specs.Prelude.{prelude}
@@ -23,12 +23,12 @@ use Rattle.nd_term.specs.Instances.{clause_type as theory_clause_type}
 use Rattle.nd_term.specs.Lists.{Each, Every, each_cons, each_nil, every_cons, every_nil}
 use Rattle.nd_term.specs.Symbols.{over_falsity}
 use Rattle.nd_term.proofs.ListLaws.{each_snoc}
-use Rattle.assemble.specs.Body.{body_under, goal_body, lets as theory_lets}
+use Rattle.assemble.specs.Body.{body_under, goal_body, goal_type as theory_goal_type, lets as theory_lets}
 use Rattle.assemble.specs.Origins.{InTurn}
 use Rattle.assemble.specs.Justification.{Instance as TheoryInstance, Right}
 use Rattle.assemble.specs.Levels.{Inside, at_level, lets_at, place_at}
 use Rattle.assemble.specs.Places.{first_place, last_of}
-use Rattle.assemble.proofs.BodyTypes.{body_typed}
+use Rattle.assemble.proofs.BodyTypes.{body_typed, goal_prop}
 use Rattle.assemble.proofs.ProblemLaws.{signature_extends}
 use Rattle.assemble.proofs.LevelLaws.{lets_levels, place_at_first}
 use Rattle.flat_typing.specs.Joined.{IsSame}
@@ -190,3 +190,12 @@ view_typed hypotheses all list same right =
     subst (λ s. HasType s [] (term_of (body_of hypotheses all)) (term_of (goal_type hypotheses))) (sym (view_signature hypotheses))
     (subst (λ t. HasType sig [] t (term_of (goal_type hypotheses))) (sym (view_body hypotheses all list same right))
     (subst (λ a. HasType sig [] (goal_body (map hypothesis_formula hypotheses) [] falsity list) a) (sym (view_goal_type hypotheses)) typed))
+
+-- the declared type of goal is a type in that signature
+pub view_goal_sorted : (hypotheses : List Hypothesis) → HasType (declarations (prelude ++ constants_of hypotheses)) [] (term_of (goal_type hypotheses)) type
+view_goal_sorted hypotheses =
+    let sig = problem_signature hypotheses in
+    let sorted : HasType sig [] (theory_goal_type (map hypothesis_formula hypotheses) falsity) type =
+    goal_prop sig (signature_extends (map atom_symbol (with_hypotheses [] hypotheses))) (hypotheses_over hypotheses) over_falsity in
+    subst (λ s. HasType s [] (term_of (goal_type hypotheses)) type) (sym (view_signature hypotheses))
+    (subst (λ a. HasType sig [] a type) (sym (view_goal_type hypotheses)) sorted)

@@ -19,7 +19,7 @@ use Rattle.assemble.specs.Justification.{Instance as TheoryInstance, Right}
 use Rattle.flat_typing.specs.Joined.{IsSame}
 use Rattle.flat_typing.specs.Translation.{hypothesis_formula, problem_signature}
 use Rattle.flat_typing.proofs.AtomLaws.{plan_atoms}
-use Rattle.flat_typing.proofs.BodyViews.{view_typed}
+use Rattle.flat_typing.proofs.BodyViews.{view_goal_sorted, view_typed}
 use Rattle.flat_typing.proofs.PlanJoins.{plan_joins}
 
 -- the instances of a plan are right instances of the theory
@@ -39,3 +39,8 @@ pub plan_closed : (hypotheses : List Hypothesis) (steps : List Step) (instances 
     → VariablesBelow 0 (term_of (body_of hypotheses instances)) × Declared (declarations (prelude ++ constants_of hypotheses)) (term_of (body_of hypotheses instances))
 plan_closed hypotheses steps instances earlier is =
     let typed = plan_typed hypotheses steps instances earlier is in (typed_below typed, typed_declared typed)
+
+pub goal_closed : (hypotheses : List Hypothesis)
+    → VariablesBelow 0 (term_of (goal_type hypotheses)) × Declared (declarations (prelude ++ constants_of hypotheses)) (term_of (goal_type hypotheses))
+goal_closed hypotheses =
+    let sorted = view_goal_sorted hypotheses in (typed_below sorted, typed_declared sorted)

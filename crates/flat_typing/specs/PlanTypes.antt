@@ -6,6 +6,7 @@ use Rattle.flat_text.specs.declared.Step.{Step}
 use Rattle.flat_steps.specs.Plan.{IsPlanOf}
 use Rattle.flat_steps.specs.declared.Instance.{Instance}
 use Rattle.flat_development.specs.Development.{body_of, constants_of, goal_type}
+use Rattle.lp_term.specs.LambdaPi.{type}
 use Rattle.lp_term.specs.Prelude.{prelude}
 use Rattle.lp_term.specs.Scope.{Declared, VariablesBelow}
 use Rattle.lp_term.specs.Signature.{declarations}
@@ -21,3 +22,7 @@ PlanIsTyped = (hypotheses : List Hypothesis) (steps : List Step) (instances : Li
 abbrev pub PlanIsClosed : Type 0
 PlanIsClosed = (hypotheses : List Hypothesis) (steps : List Step) (instances : List Instance) → HasEarlierParents steps → IsPlanOf hypotheses steps (Ok instances)
     → VariablesBelow 0 (term_of (body_of hypotheses instances)) × Declared (declarations (prelude ++ constants_of hypotheses)) (term_of (body_of hypotheses instances))
+
+-- the declared type is a type in that signature
+abbrev pub GoalIsSorted : Type 0
+GoalIsSorted = (hypotheses : List Hypothesis) → HasType (declarations (prelude ++ constants_of hypotheses)) [] (term_of (goal_type hypotheses)) type

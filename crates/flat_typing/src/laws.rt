@@ -1,7 +1,7 @@
 //! Laws of propositional developments. Each function's contract is a law; the bodies do nothing.
 ghost use Rattle.flat_typing.specs.Joined.{BodyIsClosed, BodyIsTheory, BodyIsTyped};
 ghost use Rattle.flat_typing.specs.Laws.{ClauseIsTheory, ConsumerIsTheory, GoalTypeIsTheory, InstanceTypeIsTheory, SignatureIsTheory};
-ghost use Rattle.flat_typing.specs.PlanTypes.{PlanIsClosed, PlanIsTyped};
+ghost use Rattle.flat_typing.specs.PlanTypes.{GoalIsSorted, PlanIsClosed, PlanIsTyped};
 
 /// The commands before `goal` declare the signature of the problem.
 pub fn signature_is_of_theory()
@@ -29,6 +29,7 @@ pub fn body_is_of_theory()
 
 /// The body over the instances of a plan has the declared type of `goal`, with no premise of the theory.
 pub fn plan_is_typed()
+    ensures sorted { GoalIsSorted }
     ensures typed { PlanIsTyped }
     ensures closed { PlanIsClosed }
 {}

@@ -1,4 +1,4 @@
-//! The development of a propositional problem: the lambda-Pi commands that prove `$false` from its
+//! Interim: the development of a propositional problem, the lambda-Pi commands that prove `$false` from its
 //! hypotheses by the instances of a plan.
 //!
 //! `development` answers the commands of `development_of` (specs/Development): the prelude, a constant for

@@ -1,4 +1,4 @@
-//! Judges the steps of a propositional trace and lists the instances that a proof needs.
+//! Interim: judges the steps of a propositional trace and lists the instances that a proof needs.
 //!
 //! `make_plan` answers by the relation `IsPlanOf` (specs/Plan), which the law `one_plan` (proofs/PlanLaws)
 //! shows to hold of one answer alone: no step has the empty clause; or the first wrong step of the trace and

@@ -1,4 +1,4 @@
-//! What a propositional development is in the theory of lambda-Pi terms.
+//! Interim: what a propositional development is in the theory of lambda-Pi terms.
 //!
 //! Definitions and laws alone, no code: hypotheses and clauses as formulas of the theory, that the
 //! signature and the types that a development declares are the theory's, and that the body over the instances

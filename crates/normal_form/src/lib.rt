@@ -4,7 +4,8 @@
 //! variable doesn't occur. A clause list has the form's clauses in order, each with the universals of its
 //! variables and the sides taken at the conjunctions. Both are given by cases in `specs/`, and both mean
 //! what they come from: in every interpretation the form is true exactly where the formula with the sign is,
-//! each clause is true wherever the form is, and a closed form without existentials is wherever its clauses are.
+//! and where its "all" means "each", each clause is true wherever the form is, and a closed form without
+//! existentials is wherever its clauses are.
 //!
 //! Sizes are counted before anything is built, in time linear in the formula or form, but that at each
 //! quantifier the body is searched for its variable, and at each disjunction the clauses of its sides are

@@ -1,4 +1,5 @@
 pub mod Depth
 pub mod Order
+pub mod Problems
 pub mod Symbols
 pub mod formers

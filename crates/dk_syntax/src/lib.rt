@@ -1,4 +1,4 @@
-//! Names, symbols, terms, formulas, literals and clauses: the trees that every stage speaks of.
+//! Names, symbols, terms, formulas, literals, clauses and problems: the trees that every stage speaks of.
 //!
 //! Contracts see a `Seq` as the list of its items, a `Boxed` as its value and a `Name` as its bytes,
 //! so that two trees are equal for a contract exactly where they are equal as trees, wherever they
@@ -17,6 +17,7 @@ mod formula;
 mod memory;
 mod name;
 mod order;
+mod problem;
 mod seq;
 mod symbol;
 mod symbols;
@@ -30,6 +31,7 @@ pub use formula::Formula;
 pub use memory::NoMemory;
 pub use name::Name;
 pub use order::term_order;
+pub use problem::{Named, Problem};
 pub use seq::{NoRoom, Seq};
 pub use symbol::{Kind, SymKey};
 pub use symbols::{add_formula, has_symbol, symbols_of};

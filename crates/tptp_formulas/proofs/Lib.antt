@@ -1,0 +1,17 @@
+pub mod BoundNames
+pub mod ClosingSteps
+pub mod CompleteReading
+pub mod DepthLaws
+pub mod DepthSteps
+pub mod FewLaws
+pub mod MeaningSteps
+pub mod RawEquations
+pub mod RawInduction
+pub mod RawSteps
+pub mod ReadingLaws
+pub mod Rooms
+pub mod ScopeSteps
+pub mod Shapes
+pub mod SoundEquations
+pub mod SoundFormulas
+pub mod SoundReading

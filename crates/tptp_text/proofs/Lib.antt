@@ -1,0 +1,11 @@
+pub mod ItemLaws
+pub mod Layers
+pub mod OpaqueLaws
+pub mod PrintedFormLaws
+pub mod PrintedItemLaws
+pub mod PrintedMeaning
+pub mod PrintedTokenLaws
+pub mod Printing
+pub mod SourceLaws
+pub mod TextLaws
+pub mod TextSteps

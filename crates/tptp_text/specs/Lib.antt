@@ -1,0 +1,9 @@
+pub mod Opaque
+pub mod Printed
+pub mod PrintedForms
+pub mod PrintedTokens
+pub mod Sources
+pub mod Items
+pub mod Text
+pub mod Reading
+pub mod ReadingItems

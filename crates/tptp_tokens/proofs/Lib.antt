@@ -1,0 +1,6 @@
+pub mod ChunkLaws
+pub mod LongestToken
+pub mod Loops
+pub mod NumberLaws
+pub mod Places
+pub mod SkippedMatter

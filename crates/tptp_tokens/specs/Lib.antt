@@ -1,0 +1,9 @@
+pub mod Brackets
+pub mod Bytes
+pub mod Chunks
+pub mod Matter
+pub mod Numbers
+pub mod Scan
+pub mod Skipping
+pub mod Spelling
+pub mod TokenLists

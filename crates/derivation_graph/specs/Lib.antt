@@ -1,0 +1,6 @@
+pub mod Graphs
+pub mod Orders
+pub mod Roots
+pub mod Agendas
+pub mod Reach
+pub mod Names

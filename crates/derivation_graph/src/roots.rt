@@ -1,0 +1,31 @@
+//! The root.
+ghost use Rattle.std.specs.Prelude.{◌≡◌, ◌↔◌, ◌<◌, ◌^◌, length, slice_get, Some, IsTrue, true};
+ghost use Rattle.derivation_graph.specs.Roots.{IsRootAnswer};
+
+use dk_syntax::{Formula, Seq};
+
+fn is_false(formula: &Formula) -> bool
+    ensures { IsTrue result ↔ (formula.now ≡ Formula.False) }
+{
+    matches!(formula, Formula::False)
+}
+
+fn is_barred(barred: &[bool], place: usize) -> bool
+    ensures { IsTrue result ↔ (slice_get barred.now place ≡ Some true) }
+{
+    barred.get(place).copied().unwrap_or(false)
+}
+
+/// The number of the first step whose formula is `$false` and which isn't barred.
+pub fn root(formulas: &Seq<Formula>, barred: &Seq<bool>) -> Option<u32>
+    requires { length formulas.now < 2 ^ 32 }
+    ensures { IsRootAnswer formulas.now barred.now result }
+{
+    let barred = barred.as_slice();
+    for (place, formula) in formulas.as_slice().iter().enumerate() {
+        if is_false(formula) && !is_barred(barred, place) {
+            return Some(place as u32 + 1);
+        }
+    }
+    None
+}

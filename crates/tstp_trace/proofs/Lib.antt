@@ -1,0 +1,7 @@
+pub mod SourceLaws
+pub mod NameLaws
+pub mod DistinctLaws
+pub mod FitLaws
+pub mod TraceLaws
+pub mod ProblemLaws
+pub mod KeptLaws

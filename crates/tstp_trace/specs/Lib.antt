@@ -1,0 +1,5 @@
+pub mod Names
+pub mod Faults
+pub mod Sources
+pub mod Problems
+pub mod Traces

@@ -1,0 +1,6 @@
+use Rattle.step_clause.proofs.Loops.{AllTo}
+use Rattle.unifier.specs.Substitution.{EachBelow}
+use Rattle.step_clause.proofs.numbering.is_numbered.Given as goal
+
+abbrev pub invariant-loop-literal : goal.invariant-loop-literal
+invariant-loop-literal l = AllTo (λ literal. EachBelow l.clause.vars literal.args) l.clause.lits l.literal-index

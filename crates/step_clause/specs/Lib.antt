@@ -1,0 +1,5 @@
+pub mod Candidates
+pub mod Justifications
+pub mod Places
+pub mod Search
+pub mod Slots

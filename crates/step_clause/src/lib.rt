@@ -1,0 +1,30 @@
+//! The least justification of a clause from the clauses of its parents.
+//!
+//! A clause follows from one clause of a parent where some substitution makes each of its literals a literal of the
+//! target (subsumption), or from two, or from one taken twice, where their pivots are of one atom and each other
+//! literal becomes a literal of the target (resolution). `justify` answers the least candidate that works, with its
+//! most general substitution and `Any` for each variable that is left unbound: subsumptions first, then by the numbers
+//! of parents, clauses and literals. Resolution, factoring, renaming, weakening and subsumption resolution are all of
+//! this form. All variables of each clause have to be below its number of variables, which `is_numbered` tells.
+//!
+//! The search goes literal by literal with the bindings of the literals before, and goes no further where a literal
+//! fails. It tests sign and symbol before it copies the bindings. In the worst case it takes time exponential in the
+//! number of literals, as subsumption does; it goes down by one recursion a literal.
+#![tactic(auto)]
+
+mod justification;
+mod numbering;
+mod parents;
+mod places;
+mod resolution;
+mod search;
+mod slots;
+mod subsumption;
+mod values;
+
+pub use justification::Justification;
+pub use numbering::{are_numbered, is_numbered};
+pub use parents::justify;
+
+#[cfg(test)]
+mod tests;

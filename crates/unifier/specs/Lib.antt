@@ -1,0 +1,6 @@
+pub mod Closing
+pub mod Comparing
+pub mod Outcomes
+pub mod Resolving
+pub mod Solutions
+pub mod Substitution

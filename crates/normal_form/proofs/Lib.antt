@@ -7,6 +7,7 @@ pub mod FormInduction
 pub mod FormulaEquations
 pub mod ListTotals
 pub mod LoweringLaws
+pub mod MarkLaws
 pub mod NumberedRows
 pub mod PutValue
 pub mod SoundLists

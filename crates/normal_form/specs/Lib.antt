@@ -3,6 +3,7 @@ pub mod ClauseTruth
 pub mod Existentials
 pub mod Faults
 pub mod Lowered
+pub mod Marks
 pub mod Normal
 pub mod Occurrence
 pub mod Renaming

@@ -7,16 +7,18 @@
 //! and where its "all" means "each", each clause is true wherever the form is, and a closed form without
 //! existentials is wherever its clauses are.
 //!
-//! Sizes are counted before anything is built, in time linear in the formula or form, but that at each
-//! quantifier the body is searched for its variable, and at each disjunction the clauses of its sides are
-//! counted. Building takes time linear in the form, which is copied once for each quantifier that is
-//! dropped around it, or in the list with the rows of its parts. All goes down the trees by recursion.
+//! Sizes are counted before anything is built, in time linear in the formula or form: one walk finds the
+//! variables that occur together with the nodes. While a list is built, at each disjunction the clauses of
+//! its sides are counted again. Building takes time linear in the form, which is copied once for each
+//! quantifier that is dropped around it, or in the list with the rows of its parts. All goes down the
+//! trees by recursion.
 #![tactic(auto)]
 
 mod clause_list;
 mod count;
 mod form;
 mod lower;
+mod marks;
 mod numbering;
 mod occurs;
 mod raw;

@@ -2,10 +2,10 @@
 #![tactic(auto, using(crate::proofs::Steps::form_steps))]
 
 ghost use Rattle.std.specs.Prelude.{◌≡◌, ◌+◌, map, IfOk};
-ghost use Rattle.normal_form.specs.Occurrence.{any_true, in_form, in_formula, in_term};
+ghost use Rattle.normal_form.specs.Occurrence.{any_true, in_form, in_term};
 
 use crate::form::Nf;
-use dk_syntax::{Formula, NoMemory, Term};
+use dk_syntax::{NoMemory, Term};
 
 /// The number of a variable under one more quantifier.
 pub fn inside(k: u32) -> Result<u32, NoMemory>
@@ -47,21 +47,5 @@ pub fn form_has(nf: &Nf, k: u32) -> Result<bool, NoMemory>
         Nf::And(a, b) => Ok(form_has(a.get(), k)? || form_has(b.get(), k)?),
         Nf::Or(a, b) => Ok(form_has(a.get(), k)? || form_has(b.get(), k)?),
         Nf::All(a) | Nf::Ex(a) => form_has(a.get(), inside(k)?),
-    }
-}
-
-/// Whether variable `k` occurs in a formula.
-pub fn formula_has(f: &Formula, k: u32) -> Result<bool, NoMemory>
-    ensures { IfOk result (λ found. found ≡ in_formula f.now k) }
-{
-    match f {
-        Formula::True | Formula::False => Ok(false),
-        Formula::Atom(_, args) => Ok(terms_have(args.as_slice(), k)),
-        Formula::Not(a) => formula_has(a.get(), k),
-        Formula::And(a, b) => Ok(formula_has(a.get(), k)? || formula_has(b.get(), k)?),
-        Formula::Or(a, b) => Ok(formula_has(a.get(), k)? || formula_has(b.get(), k)?),
-        Formula::Imp(a, b) => Ok(formula_has(a.get(), k)? || formula_has(b.get(), k)?),
-        Formula::Iff(a, b) => Ok(formula_has(a.get(), k)? || formula_has(b.get(), k)?),
-        Formula::All(a) | Formula::Ex(a) => formula_has(a.get(), inside(k)?),
     }
 }

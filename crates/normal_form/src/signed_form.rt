@@ -28,7 +28,7 @@ pub fn normal(alloc: Global, sign: bool, f: &Formula) -> Result<Nf, NfFault>
     ensures limit { IfOk result (λ nf. nodes_of nf ≤ 100000) }
     ensures fault { IfErr result (λ fault. FormFault f.now sign fault) }
 {
-    let nodes = match count_nodes(f) {
+    let nodes = match count_nodes(alloc, f) {
         Ok(sizes) if sign => sizes.positive,
         Ok(sizes) => sizes.negative,
         Err(NoMemory) => return Err(NfFault::Memory),

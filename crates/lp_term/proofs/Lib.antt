@@ -4,6 +4,7 @@ pub mod GrammarLaws
 pub mod IdentifierLaws
 pub mod IntroductionRules
 pub mod PreludeLaws
+pub mod ProblemLaws
 pub mod QuantifierRules
 pub mod ScopeLaws
 pub mod SubstitutionLaws

@@ -5,6 +5,7 @@ pub mod Identifiers
 pub mod LambdaPi
 pub mod Names
 pub mod Prelude
+pub mod Problems
 pub mod ProofTerms
 pub mod Reserved
 pub mod Scope
@@ -12,6 +13,7 @@ pub mod Signature
 pub mod Substitution
 pub mod Terms
 pub mod TheoryLaws
+pub mod Translation
 pub mod Typing
 pub mod View
 pub mod Weights

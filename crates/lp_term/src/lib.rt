@@ -16,16 +16,20 @@ mod ident;
 mod identifier;
 pub mod laws;
 mod lp;
+mod problem;
 mod replace;
 mod rules;
 mod start;
 #[cfg(test)]
 mod tests;
+mod translation;
 
 pub use build::{apply, apply_both, arrow, lambda, negation, pattern, product, proof_type, symbol};
 pub use command::{Command, Dev};
 pub use ident::Ident;
 pub use identifier::ident_of;
 pub use lp::Lp;
+pub use problem::{constants, goal_type, symbol_type};
 pub use replace::{lift, subst};
 pub use start::prelude;
+pub use translation::translate;

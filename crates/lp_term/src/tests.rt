@@ -1,5 +1,7 @@
-use crate::{Ident, Lp, apply, ident_of, lambda, prelude, subst, symbol};
-use dk_syntax::{Kind, Name, SymKey};
+use crate::{
+    Ident, Lp, apply, constants, goal_type, ident_of, lambda, prelude, subst, symbol, translate,
+};
+use dk_syntax::{Formula, Kind, Name, Named, Problem, Seq, SymKey, Term};
 use std::test::Fail;
 
 /// The symbol that is the argument in the body of an abstraction.
@@ -38,5 +40,46 @@ fn answers(rt: HostRuntime) -> Result<(), Fail> {
         argument_of(&t).map(|name| name.as_bytes()),
         Some(b"any".as_slice())
     );
+    Ok(())
+}
+
+/// The identifiers of the heads and arguments of a term's spine, from the last argument to the head.
+fn is_symbol(t: &Lp, want: &[u8]) -> bool {
+    matches!(t, Lp::Sym(name) if name.as_bytes() == want)
+}
+
+#[test]
+fn declares(rt: HostRuntime) -> Result<(), Fail> {
+    let alloc = rt.alloc();
+    let name = Name::new(Vec::from_slice(alloc, b"p")?);
+    let p = SymKey {
+        name,
+        arity: 1,
+        kind: Kind::Predicate,
+    };
+    let atom = Formula::Atom(p.copy(alloc)?, Seq::from_vec(vec![in alloc; Term::Any]?));
+    let proposition = translate(alloc, &atom)?;
+    let Lp::App(head, argument) = &proposition else {
+        return Err(Fail::new("an atom is an application"));
+    };
+    assert!(rt; is_symbol(head.get(), b"p1_p") && is_symbol(argument.get(), b"any"));
+    let hypothesis = Named {
+        name: Name::new(Vec::from_slice(alloc, b"a")?),
+        formula: atom,
+    };
+    let problem = Problem {
+        hyps: Seq::from_vec(vec![in alloc; hypothesis]?),
+        conjecture: None,
+        symbols: Seq::from_vec(vec![in alloc; p]?),
+    };
+    let of = goal_type(alloc, &problem)?;
+    let Lp::Pi(_, body) = &of else {
+        return Err(Fail::new("a hypothesis is a domain"));
+    };
+    let Lp::App(_, conclusion) = body.get() else {
+        return Err(Fail::new("a conclusion is a proof type"));
+    };
+    assert!(rt; is_symbol(conclusion.get(), b"bot"));
+    assert_eq!(rt; constants(alloc, problem.symbols.as_slice())?.len(), 1);
     Ok(())
 }

@@ -1,9 +1,9 @@
 -- The terms of instances. The hypotheses' variables have the levels from 0 on, then comes the denied
 -- conjecture's, then those of the instances, and inside an instance's term those of its literals.
-use Rattle.std.specs.Prelude.{ℕ, ◌+◌, ◌==◌, List, [], ◌∷◌, map, length, if◌then◌else◌, slice_get, Option, Some, None}
+use Rattle.std.specs.Prelude.{ℕ, true, ◌+◌, ◌==◌, List, [], ◌∷◌, map, length, if◌then◌else◌, slice_get, Option, Some, None}
 use Rattle.std.specs.List.{range_with_len}
-use Rattle.flat_text.specs.declared.Literal.{Literal}
-use Rattle.flat_text.specs.declared.Hypothesis.{Hypothesis}
+use Rattle.dk_syntax.specs.declared.Named.{Named}
+use Rattle.flat_form.specs.declared.Literal.{Literal}
 use Rattle.flat_steps.specs.declared.Base.{Base}
 use Rattle.flat_steps.specs.declared.Base.TheVariants as base
 use Rattle.flat_steps.specs.declared.Instance.{Instance}
@@ -15,15 +15,15 @@ use Rattle.flat_development.specs.Clauses.{atom_term, literal_types, clause_type
 use Rattle.flat_development.specs.Consumer.{consume}
 
 -- the level of an instance's variable
-abbrev pub instance_level : List Hypothesis → ℕ → ℕ
+abbrev pub instance_level : List Named → ℕ → ℕ
 instance_level hypotheses place = length hypotheses + 1 + place
 
--- a hypothesis that isn't there has the clause `$false`
-abbrev pub clause_of_hypothesis : Option Hypothesis → List Literal
-clause_of_hypothesis None = []
-clause_of_hypothesis (Some hypothesis) = hypothesis.clause
+-- falsity from a proof t of a hypothesis; one that isn't there is `$false`
+abbrev pub consume_hypothesis : Option Named → (first level : ℕ) → Lp → Lp
+consume_hypothesis None first level t = t
+consume_hypothesis (Some hypothesis) first level t = consume hypothesis.formula true first level t
 
--- and so has an instance
+-- an instance that isn't there has no literal
 abbrev pub clause_of_instance : Option Instance → List Literal
 clause_of_instance None = []
 clause_of_instance (Some instance) = instance.clause
@@ -49,15 +49,15 @@ pivot_term negative first count picks atom =
     (apply_all (variable (first + count + 1) negative) (chosen first (first + count + 1) picks))
 
 -- the variable of an instance, at a place of the level
-abbrev pub instance_variable : List Hypothesis → (level place : ℕ) → Lp
+abbrev pub instance_variable : List Named → (level place : ℕ) → Lp
 instance_variable hypotheses level place = variable level (instance_level hypotheses place)
 
 -- the proof of falsity under the variables of the instance's literals, the first of which is bound at the
 -- level `first`
-abbrev pub base_term : List Hypothesis → List Instance → (first count : ℕ) → Base → Lp
+abbrev pub base_term : List Named → List Instance → (first count : ℕ) → Base → Lp
 base_term hypotheses instances first count (base.Hypothesis place) =
     let level = first + count in
-    consume first level (clause_of_hypothesis (slice_get hypotheses place)) (variable level place)
+    consume_hypothesis (slice_get hypotheses place) first level (variable level place)
 base_term hypotheses instances first count (base.Structural parent) =
     let level = first + count in
     apply_all (instance_variable hypotheses level parent) (chosen first level (range_with_len 0 count))
@@ -70,14 +70,14 @@ base_term hypotheses instances first count (base.Resolve positive negative posit
     apply_all (instance_variable hypotheses (first + count) positive) (chosen_or_pivot first count pivot parent positive_picks)
 
 -- the term of the instance at a place: `λ (n1 : N1), ..` over its proof of falsity
-abbrev pub instance_term : List Hypothesis → List Instance → ℕ → Instance → Lp
+abbrev pub instance_term : List Named → List Instance → ℕ → Instance → Lp
 instance_term hypotheses instances place instance =
     abstractions
     (literal_types instance.clause)
     (base_term hypotheses instances (instance_level hypotheses place) (length instance.clause) instance.base)
 
 -- the lets of instances, the first of which has this place, over the term u
-abbrev pub lets : List Hypothesis → List Instance → ℕ → List Instance → Lp → Lp
+abbrev pub lets : List Named → List Instance → ℕ → List Instance → Lp → Lp
 lets hypotheses instances place [] u = u
 lets hypotheses instances place (instance ∷ rest) u =
     let_in

@@ -1,16 +1,11 @@
 -- The words in which the development's terms are written.
 use Rattle.std.specs.Prelude.{ℕ, ◌-◌, List, [], ◌∷◌, codes}
-use Rattle.lp_term.specs.Terms.{apply_two}
 use Rattle.lp_term.specs.declared.Lp.{Lp}
 use Rattle.lp_term.specs.declared.Lp.TheVariants.{Sym, Var, App, Lam, Pi}
 
 -- `bot`
 abbrev pub falsity : Lp
 falsity = Sym (codes "bot")
-
--- `or p q`
-abbrev pub disjunction_of : Lp → Lp → Lp
-disjunction_of p q = apply_two (Sym (codes "or")) p q
 
 -- the variable that is bound at a level, at a place of a greater level: a place's level is the number of
 -- binders around it, and a binder's level is that of its own place

@@ -10,7 +10,7 @@ use crate::clauses::atom_term;
 use crate::levels::further;
 use crate::terms::variable;
 use dk_syntax::{Name, NoMemory};
-use flat_text::Literal;
+use flat_form::Literal;
 use lp_term::{Lp, apply, lambda, proof_type};
 use std::alloc::Global;
 

@@ -1,15 +1,14 @@
-//! The translations of literals and clauses, and the types of the variables that stand for them.
+//! The types of the variables that stand for literals and for hypotheses.
 ghost use Rattle.std.specs.Prelude.{◌≡◌, IfOk};
-ghost use Rattle.flat_development.specs.Clauses.{atom_identifier, atom_term, clause_term, hypothesis_types, literal_term, literal_type, literal_types, signed};
+ghost use Rattle.flat_development.specs.Clauses.{atom_identifier, atom_term, hypothesis_types, literal_type, literal_types, signed};
 
-use crate::terms::{disjunction, falsity};
-use dk_syntax::{Kind, Name, NoMemory, Seq, SymKey};
-use flat_text::{Hypothesis, Literal};
-use lp_term::{Ident, Lp, ident_of, negation, proof_type};
+use dk_syntax::{Kind, Name, Named, NoMemory, Seq, SymKey};
+use flat_form::Literal;
+use lp_term::{Ident, Lp, ident_of, negation, proof_type, translate};
 use std::alloc::Global;
 
 /// The identifier of an atom.
-pub fn atom_identifier(alloc: Global, atom: &Name) -> Result<Ident, NoMemory>
+fn atom_identifier(alloc: Global, atom: &Name) -> Result<Ident, NoMemory>
     ensures { IfOk result (λ ident. ident ≡ atom_identifier atom.now) }
 {
     let symbol = SymKey {
@@ -34,31 +33,8 @@ fn signed(alloc: Global, positive: bool, p: Lp) -> Result<Lp, NoMemory>
     if positive { Ok(p) } else { negation(alloc, p) }
 }
 
-/// The translation of a literal.
-pub fn literal_term(alloc: Global, literal: &Literal) -> Result<Lp, NoMemory>
-    ensures { IfOk result (λ t. t ≡ literal_term literal.now) }
-{
-    let atom = atom_term(alloc, &literal.atom)?;
-    signed(alloc, literal.positive, atom)
-}
-
-/// The translation of a clause.
-pub fn clause_term(alloc: Global, clause: &[Literal]) -> Result<Lp, NoMemory>
-    ensures { IfOk result (λ t. t ≡ clause_term clause.now) }
-{
-    let Some((first, rest)) = clause.split_first() else {
-        return falsity(alloc);
-    };
-    let mut all = literal_term(alloc, first)?;
-    for literal in rest {
-        let last = literal_term(alloc, literal)?;
-        all = disjunction(alloc, all, last)?;
-    }
-    Ok(all)
-}
-
 /// The type of the variable that stands for a literal.
-pub fn literal_type(alloc: Global, literal: &Literal) -> Result<Lp, NoMemory>
+fn literal_type(alloc: Global, literal: &Literal) -> Result<Lp, NoMemory>
     ensures { IfOk result (λ t. t ≡ literal_type literal.now) }
 {
     let atom = atom_term(alloc, &literal.atom)?;
@@ -77,13 +53,13 @@ pub fn literal_types(alloc: Global, clause: &[Literal]) -> Result<Seq<Lp>, NoMem
 }
 
 /// The types of the variables that stand for hypotheses.
-pub fn hypothesis_types(alloc: Global, hypotheses: &[Hypothesis]) -> Result<Seq<Lp>, NoMemory>
+pub fn hypothesis_types(alloc: Global, hypotheses: &[Named]) -> Result<Seq<Lp>, NoMemory>
     ensures { IfOk result (λ types. types ≡ hypothesis_types hypotheses.now) }
 {
     let mut types = Seq::from_vec(Vec::new(alloc));
     for hypothesis in hypotheses {
-        let clause = clause_term(alloc, hypothesis.clause.as_slice())?;
-        types.push(proof_type(alloc, clause)?)?;
+        let proposition = translate(alloc, &hypothesis.formula)?;
+        types.push(proof_type(alloc, proposition)?)?;
     }
     Ok(types)
 }

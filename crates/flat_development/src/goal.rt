@@ -1,26 +1,17 @@
 //! The definition of goal, and the whole development.
 ghost use Rattle.std.specs.Prelude.{◌≡◌, IfOk};
-ghost use Rattle.flat_development.specs.Development.{body_of, by_contradiction, conclusion, development_of, excluded_middle, goal_of, goal_type};
+ghost use Rattle.flat_development.specs.Development.{body_of, by_contradiction, conclusion, development_of, excluded_middle, goal_of};
 
-use crate::atoms::{add_constants, atoms};
 use crate::clauses::hypothesis_types;
 use crate::instances::lets;
-use crate::terms::{abstractions, arrows, falsity};
-use dk_syntax::NoMemory;
+use crate::terms::{abstractions, falsity};
+use dk_syntax::{Named, NoMemory, Problem, Seq};
 use flat_steps::Instance;
-use flat_text::Hypothesis;
 use lp_term::{
-    Command, Dev, Ident, Lp, apply, apply_both, lambda, negation, prelude, proof_type, symbol,
+    Command, Dev, Ident, Lp, apply, apply_both, constants, goal_type, lambda, negation, prelude,
+    proof_type, symbol,
 };
 use std::alloc::Global;
-
-/// The type of goal.
-fn goal_type(alloc: Global, hypotheses: &[Hypothesis]) -> Result<Lp, NoMemory>
-    ensures { IfOk result (λ t. t ≡ goal_type hypotheses.now) }
-{
-    let types = hypothesis_types(alloc, hypotheses)?;
-    arrows(alloc, types, proof_type(alloc, falsity(alloc)?)?)
-}
 
 /// `em bot bot`.
 fn excluded_middle(alloc: Global) -> Result<Lp, NoMemory>
@@ -49,7 +40,7 @@ fn conclusion(alloc: Global) -> Result<Lp, NoMemory>
 }
 
 /// The body of goal.
-fn body(alloc: Global, hypotheses: &[Hypothesis], instances: &[Instance]) -> Result<Lp, NoMemory>
+fn body(alloc: Global, hypotheses: &[Named], instances: &[Instance]) -> Result<Lp, NoMemory>
     ensures { IfOk result (λ t. t ≡ body_of hypotheses.now instances.now) }
 {
     let bound = lets(alloc, hypotheses, instances, conclusion(alloc)?)?;
@@ -58,33 +49,33 @@ fn body(alloc: Global, hypotheses: &[Hypothesis], instances: &[Instance]) -> Res
 }
 
 /// The definition of goal.
-fn goal(
-    alloc: Global,
-    hypotheses: &[Hypothesis],
-    instances: &[Instance],
-) -> Result<Command, NoMemory>
-    ensures { IfOk result (λ command. command ≡ goal_of hypotheses.now instances.now) }
+fn goal(alloc: Global, problem: &Problem, instances: &[Instance]) -> Result<Command, NoMemory>
+    ensures { IfOk result (λ command. command ≡ goal_of problem.now instances.now) }
 {
     let name = Ident::new(Vec::from_slice(alloc, b"goal")?);
-    let statement = goal_type(alloc, hypotheses)?;
-    Ok(Command::Define(name, statement, body(alloc, hypotheses, instances)?))
+    let statement = goal_type(alloc, problem)?;
+    let body = body(alloc, problem.hyps.as_slice(), instances)?;
+    Ok(Command::Define(name, statement, body))
 }
 
-/// The development of a problem's hypotheses and a plan's instances: the prelude, a constant for each atom of
-/// the hypotheses, and the definition of goal.
+/// The development of a problem and a plan's instances: the prelude, a constant for each symbol of the
+/// problem, and the definition of goal.
 ///
-/// An instance may name anything: where it names a hypothesis or an instance that isn't there, that has the
-/// clause `$false`. The only error is want of memory, and a level that a `u32` has no room for is one.
+/// An instance may name anything: a hypothesis that isn't there counts as `$false`, and an instance that
+/// isn't there has no literal. The only error is want of memory, and a level that a `u32` has no room for is
+/// one.
 pub fn development(
     alloc: Global,
-    hypotheses: &[Hypothesis],
-    instances: &[Instance],
+    problem: &Problem,
+    instances: &Seq<Instance>,
 ) -> Result<Dev, NoMemory>
-    ensures { IfOk result (λ dev. dev ≡ development_of hypotheses.now instances.now) }
+    ensures { IfOk result (λ dev. dev ≡ development_of problem.now instances.now) }
 {
-    let mut commands = prelude(alloc)?;
-    let atoms = atoms(alloc, hypotheses)?;
-    add_constants(alloc, &mut commands, atoms.as_slice())?;
-    commands.push(goal(alloc, hypotheses, instances)?)?;
-    Ok(Dev { commands })
+    let mut commands = prelude(alloc)?.into_vec();
+    let mut declared = constants(alloc, problem.symbols.as_slice())?.into_vec();
+    commands.append(&mut declared)?;
+    commands.push(goal(alloc, problem, instances.as_slice())?)?;
+    Ok(Dev {
+        commands: Seq::from_vec(commands),
+    })
 }

@@ -1,34 +1,41 @@
 //! The terms of instances, and the lets that bind them.
 ghost use Rattle.std.specs.Prelude.{◌≡◌, IfOk, slice_get};
 ghost use Rattle.flat_development.specs.Clauses.{clause_type};
-ghost use Rattle.flat_development.specs.Instances.{base_term, clause_of_hypothesis, clause_of_instance, instance_level, instance_term, instance_variable, lets};
+ghost use Rattle.flat_development.specs.Instances.{base_term, clause_of_instance, consume_hypothesis, instance_level, instance_term, instance_variable, lets};
 
 use crate::arguments::{Literals, apply_chosen, apply_in_order, apply_resolved};
 use crate::clauses::literal_types;
 use crate::consumer::consume;
 use crate::levels::{further, number};
 use crate::terms::{abstractions, arrows, falsity, let_in, variable};
-use dk_syntax::NoMemory;
+use dk_syntax::{Named, NoMemory};
+use flat_form::Literal;
 use flat_steps::{Base, Instance};
-use flat_text::{Hypothesis, Literal};
 use lp_term::{Lp, proof_type};
 use std::alloc::Global;
 
 /// The level of an instance's variable, where there are so many hypotheses.
-fn instance_level(hypotheses: &[Hypothesis], place: u32) -> Result<u32, NoMemory>
+fn instance_level(hypotheses: &[Named], place: u32) -> Result<u32, NoMemory>
     ensures { IfOk result (λ level. level ≡ instance_level hypotheses.now place) }
 {
     let denied = number(hypotheses.len())?;
     further(further(denied, 1)?, place)
 }
 
-/// The clause of the hypothesis at a place.
-fn clause_of_hypothesis(hypotheses: &[Hypothesis], place: u32) -> &[Literal]
-    ensures { result.now ≡ clause_of_hypothesis (slice_get hypotheses.now place) }
+/// Falsity from a proof `t` of the hypothesis at a place.
+fn consume_hypothesis(
+    alloc: Global,
+    hypotheses: &[Named],
+    place: u32,
+    first: u32,
+    level: u32,
+    t: Lp,
+) -> Result<Lp, NoMemory>
+    ensures { IfOk result (λ r. r ≡ consume_hypothesis (slice_get hypotheses.now place) first level t) }
 {
     match hypotheses.get(place as usize) {
-        Some(hypothesis) => hypothesis.clause.as_slice(),
-        None => &[],
+        Some(hypothesis) => consume(alloc, &hypothesis.formula, true, first, level, t),
+        None => Ok(t),
     }
 }
 
@@ -43,7 +50,7 @@ fn clause_of_instance(instances: &[Instance], place: u32) -> &[Literal]
 }
 
 /// The variable of an instance, at a place of the level.
-fn instance_variable(hypotheses: &[Hypothesis], place: u32, level: u32) -> Result<Lp, NoMemory>
+fn instance_variable(hypotheses: &[Named], place: u32, level: u32) -> Result<Lp, NoMemory>
     ensures { IfOk result (λ t. t ≡ instance_variable hypotheses.now level place) }
 {
     Ok(variable(level, instance_level(hypotheses, place)?))
@@ -52,7 +59,7 @@ fn instance_variable(hypotheses: &[Hypothesis], place: u32, level: u32) -> Resul
 /// The proof of falsity under the variables of an instance's literals.
 fn base_term(
     alloc: Global,
-    hypotheses: &[Hypothesis],
+    hypotheses: &[Named],
     instances: &[Instance],
     literals: Literals,
     base: &Base,
@@ -62,14 +69,8 @@ fn base_term(
     let level = literals.level()?;
     match base {
         Base::Hypothesis(place) => {
-            let clause = clause_of_hypothesis(hypotheses, *place);
-            consume(
-                alloc,
-                clause,
-                literals.first,
-                level,
-                variable(level, *place),
-            )
+            let proof = variable(level, *place);
+            consume_hypothesis(alloc, hypotheses, *place, literals.first, level, proof)
         }
         Base::Structural(parent) => {
             let head = instance_variable(hypotheses, *parent, level)?;
@@ -112,7 +113,7 @@ fn instance_type(alloc: Global, clause: &[Literal]) -> Result<Lp, NoMemory>
 /// The term of the instance at a place.
 fn instance_term(
     alloc: Global,
-    hypotheses: &[Hypothesis],
+    hypotheses: &[Named],
     instances: &[Instance],
     place: u32,
     instance: &Instance,
@@ -134,7 +135,7 @@ fn instance_term(
 /// The lets of all instances over the term `u`, put together from the last to the first.
 pub fn lets(
     alloc: Global,
-    hypotheses: &[Hypothesis],
+    hypotheses: &[Named],
     instances: &[Instance],
     u: Lp,
 ) -> Result<Lp, NoMemory>

@@ -2,17 +2,18 @@
 //! hypotheses by the instances of a plan.
 //!
 //! `development` answers the commands of `development_of` (specs/Development): the prelude, a constant for
-//! each atom, and the definition of `goal`, which binds the hypotheses, then the denied conjecture, then each
-//! instance by a `let`. It asks nothing of the plan: whether the definition has its type is for the steps that
-//! made the plan to see to. Its only error is want of memory.
+//! each symbol, and the definition of `goal`, which binds the hypotheses, then the denied conjecture, then each
+//! instance by a `let`. A hypothesis may be built by `|` in any nesting, which its consumer follows
+//! (specs/Consumer). The call asks nothing of the plan and nothing of the formulas: whether the definition has
+//! its type is for the steps that made the plan to see to, where the problem is flat. Its only error is want
+//! of memory.
 //!
-//! The cost is linear in the size of the development, and quadratic in the number of atoms, which are looked
-//! up one by one; a disjunction of n literals is written out n times where a proof goes through it. Chains of
-//! hypotheses and of instances are put together by loops, in a fixed depth of stack.
+//! The cost is linear in the size of the development, in which a disjunction of n literals is written out up
+//! to n times where a proof goes through it. Chains of hypotheses and of instances are put together by loops,
+//! in a fixed depth of stack; a formula is gone through by recursion, as deep as the formula is.
 #![tactic(auto)]
 
 mod arguments;
-mod atoms;
 mod clauses;
 mod consumer;
 mod goal;

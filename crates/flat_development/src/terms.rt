@@ -2,10 +2,10 @@
 #![tactic(auto, using(crate::proofs::Chains::chain_steps))]
 
 ghost use Rattle.std.specs.Prelude.{◌≡◌, IfOk};
-ghost use Rattle.flat_development.specs.Terms.{abstractions, arrows, disjunction_of, falsity, let_in, variable};
+ghost use Rattle.flat_development.specs.Terms.{abstractions, arrows, falsity, let_in, variable};
 
 use dk_syntax::{NoMemory, Seq};
-use lp_term::{Lp, apply, apply_both, lambda, product, symbol};
+use lp_term::{Lp, apply, lambda, product, symbol};
 use std::alloc::Global;
 
 /// `bot`.
@@ -13,13 +13,6 @@ pub fn falsity(alloc: Global) -> Result<Lp, NoMemory>
     ensures { IfOk result (λ t. t ≡ falsity) }
 {
     symbol(alloc, b"bot")
-}
-
-/// `or p q`.
-pub fn disjunction(alloc: Global, p: Lp, q: Lp) -> Result<Lp, NoMemory>
-    ensures { IfOk result (λ t. t ≡ disjunction_of p q) }
-{
-    apply_both(alloc, symbol(alloc, b"or")?, p, q)
 }
 
 /// The variable that is bound at a level, at a place of a greater level.

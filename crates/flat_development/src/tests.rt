@@ -1,9 +1,10 @@
 //! Developments written out by hand, and a long one.
 use crate::goal::development;
-use dk_syntax::{Name, NoMemory, Seq};
+use dk_syntax::{Boxed, Formula, Kind, Name, Named, NoMemory, Problem, Seq, SymKey, add_formula};
+use flat_form::Literal;
 use flat_steps::{Base, Instance};
-use flat_text::{Hypothesis, Literal};
-use lp_term::{Command, Lp};
+use lp_term::{Dev, prelude};
+use lp_text::print;
 use std::alloc::Global;
 use std::test::Fail;
 
@@ -16,6 +17,42 @@ enum Row<'a> {
     Resolve(u32, u32, &'a [u32], &'a [u32]),
 }
 
+fn name(alloc: Global, letter: u8) -> Result<Name, NoMemory> {
+    Ok(Name::new(Vec::from_slice(alloc, &[letter])?))
+}
+
+fn atom(alloc: Global, letter: u8) -> Result<Formula, NoMemory> {
+    let symbol = SymKey {
+        name: name(alloc, letter)?,
+        arity: 0,
+        kind: Kind::Predicate,
+    };
+    Ok(Formula::Atom(symbol, Seq::from_vec(Vec::new(alloc))))
+}
+
+fn not(alloc: Global, letter: u8) -> Result<Formula, NoMemory> {
+    Ok(Formula::Not(Boxed::new(alloc, atom(alloc, letter)?)?))
+}
+
+fn or(alloc: Global, a: Formula, b: Formula) -> Result<Formula, NoMemory> {
+    Ok(Formula::Or(Boxed::new(alloc, a)?, Boxed::new(alloc, b)?))
+}
+
+fn problem(alloc: Global, formulas: Vec<Formula>) -> Result<Problem, NoMemory> {
+    let mut hyps = Vec::new(alloc);
+    let mut symbols = Seq::from_vec(Vec::new(alloc));
+    for formula in formulas {
+        add_formula(alloc, &mut symbols, &formula)?;
+        let name = name(alloc, b'a')?;
+        hyps.push(Named { name, formula })?;
+    }
+    Ok(Problem {
+        hyps: Seq::from_vec(hyps),
+        conjecture: None,
+        symbols,
+    })
+}
+
 // The clause of a text such as `p|~q`, whose atoms are single letters.
 fn clause(alloc: Global, text: &str) -> Result<Seq<Literal>, NoMemory> {
     let mut literals = Seq::from_vec(Vec::new(alloc));
@@ -24,20 +61,12 @@ fn clause(alloc: Global, text: &str) -> Result<Seq<Literal>, NoMemory> {
         if *byte == b'~' {
             positive = false;
         } else if *byte != b'|' {
-            let atom = Name::new(Vec::from_slice(alloc, &[*byte])?);
+            let atom = name(alloc, *byte)?;
             literals.push(Literal { positive, atom })?;
             positive = true;
         }
     }
     Ok(literals)
-}
-
-fn hypothesis(alloc: Global, text: &str) -> Result<Hypothesis, NoMemory> {
-    let name = Name::new(Vec::from_slice(alloc, b"a")?);
-    Ok(Hypothesis {
-        name,
-        clause: clause(alloc, text)?,
-    })
 }
 
 fn picks(alloc: Global, picks: &[u32]) -> Result<Seq<u32>, NoMemory> {
@@ -70,105 +99,20 @@ fn instance(alloc: Global, text: &str, row: Row) -> Result<Instance, NoMemory> {
     })
 }
 
-fn put(out: &mut Vec<u8>, text: &str) -> Result<(), NoMemory> {
-    out.extend_from_slice(text.as_bytes())?;
-    Ok(())
-}
-
-fn put_variable(alloc: Global, out: &mut Vec<u8>, level: u32) -> Result<(), NoMemory> {
-    let text = format!(in alloc; "v{level}")?;
-    put(out, text.as_str())
-}
-
-// The variable of a binder at a level, and what is written after it.
-fn put_binder(alloc: Global, out: &mut Vec<u8>, before: &str, level: u32) -> Result<(), NoMemory> {
-    put(out, before)?;
-    put_variable(alloc, out, level)?;
-    put(out, " : ")
-}
-
-fn is_atom(term: &Lp) -> bool {
-    matches!(term, Lp::Sort | Lp::Sym(_) | Lp::Var(_) | Lp::Pat(_))
-}
-
-// The canonical text of a term in which no variable of a product occurs.
-fn put_term(alloc: Global, term: &Lp, level: u32, out: &mut Vec<u8>) -> Result<(), NoMemory> {
-    let deeper = level.saturating_add(1);
-    match term {
-        Lp::Sort => put(out, "TYPE"),
-        Lp::Sym(name) => Ok(out.extend_from_slice(name.as_bytes())?),
-        Lp::Pat(name) => Ok(out.extend_from_slice(name.as_bytes())?),
-        Lp::Var(number) => {
-            put_variable(alloc, out, level.saturating_sub(1).saturating_sub(*number))
-        }
-        Lp::Lam(domain, body) => {
-            put_binder(alloc, out, "λ (", level)?;
-            put_term(alloc, domain.get(), level, out)?;
-            put(out, "), ")?;
-            put_term(alloc, body.get(), deeper, out)
-        }
-        Lp::Pi(domain, body) => {
-            put_term(alloc, domain.get(), level, out)?;
-            put(out, " → ")?;
-            put_term(alloc, body.get(), deeper, out)
-        }
-        Lp::App(function, argument) => match function.get() {
-            Lp::Lam(domain, body) => {
-                put_binder(alloc, out, "let ", level)?;
-                put_term(alloc, domain.get(), level, out)?;
-                put(out, " ≔ ")?;
-                put_term(alloc, argument.get(), level, out)?;
-                put(out, " in\n")?;
-                put_term(alloc, body.get(), deeper, out)
-            }
-            head => {
-                put_term(alloc, head, level, out)?;
-                let atom = is_atom(argument.get());
-                put(out, if atom { " " } else { " (" })?;
-                put_term(alloc, argument.get(), level, out)?;
-                put(out, if atom { "" } else { ")" })
-            }
-        },
-    }
-}
-
-fn put_command(alloc: Global, command: &Command, out: &mut Vec<u8>) -> Result<(), NoMemory> {
-    match command {
-        Command::Constant(name, statement) => {
-            put(out, "constant symbol ")?;
-            out.extend_from_slice(name.as_bytes())?;
-            put(out, " : ")?;
-            put_term(alloc, statement, 0, out)?;
-        }
-        Command::Define(name, statement, body) => {
-            put(out, "symbol ")?;
-            out.extend_from_slice(name.as_bytes())?;
-            put(out, " : ")?;
-            put_term(alloc, statement, 0, out)?;
-            put(out, " ≔ ")?;
-            put_term(alloc, body, 0, out)?;
-        }
-        _ => {}
-    }
-    put(out, ";\n")
-}
-
-// The text of a development's commands after the prelude's.
-fn text(alloc: Global, axioms: &[&str], rows: &[(&str, Row)]) -> Result<Vec<u8>, NoMemory> {
-    let mut hypotheses = Vec::new(alloc);
-    for axiom in axioms {
-        hypotheses.push(hypothesis(alloc, axiom)?)?;
-    }
-    let mut instances = Vec::new(alloc);
+// The text of a development after the prelude's.
+fn text(alloc: Global, formulas: Vec<Formula>, rows: &[(&str, Row)]) -> Result<Vec<u8>, NoMemory> {
+    let problem = problem(alloc, formulas)?;
+    let mut instances = Seq::from_vec(Vec::new(alloc));
     for (clause, row) in rows {
         instances.push(instance(alloc, clause, *row)?)?;
     }
-    let dev = development(alloc, hypotheses.as_slice(), instances.as_slice())?;
-    let mut out = Vec::new(alloc);
-    for command in dev.commands.as_slice().iter().skip(23) {
-        put_command(alloc, command, &mut out)?;
+    let whole = print(alloc, &development(alloc, &problem, &instances)?)?;
+    let commands = prelude(alloc)?;
+    let before = print(alloc, &Dev { commands })?;
+    match whole.as_slice().get(before.len()..) {
+        Some(after) => Ok(Vec::from_slice(alloc, after)?),
+        None => Ok(whole),
     }
-    Ok(out)
 }
 
 const CONTRADICTION: &str = "constant symbol p0_p : Prop;
@@ -207,22 +151,60 @@ const FALSITY: &str =
 v2 bot);
 ";
 
+const NESTED: &str = "constant symbol p0_p : Prop;
+constant symbol p0_q : Prop;
+constant symbol p0_r : Prop;
+symbol goal : Prf (or p0_p (or p0_q p0_r)) → Prf (not p0_p) → Prf (not p0_q) → Prf (not p0_r) → Prf bot ≔ λ (v0 : Prf (or p0_p (or p0_q p0_r))), λ (v1 : Prf (not p0_p)), λ (v2 : Prf (not p0_q)), λ (v3 : Prf (not p0_r)), em bot bot (λ (v4 : Prf bot), v4) (λ (v4 : Prf (not bot)), let v5 : Prf (not p0_p) → Prf (not p0_q) → Prf (not p0_r) → Prf bot ≔ λ (v5 : Prf (not p0_p)), λ (v6 : Prf (not p0_q)), λ (v7 : Prf (not p0_r)), v0 bot (λ (v8 : Prf p0_p), v5 v8) (λ (v8 : Prf (or p0_q p0_r)), v8 bot (λ (v9 : Prf p0_q), v6 v9) (λ (v9 : Prf p0_r), v7 v9)) in
+let v6 : Prf p0_p → Prf bot ≔ λ (v6 : Prf p0_p), v1 v6 in
+let v7 : Prf p0_q → Prf bot ≔ λ (v7 : Prf p0_q), v2 v7 in
+let v8 : Prf p0_r → Prf bot ≔ λ (v8 : Prf p0_r), v3 v8 in
+let v9 : Prf (not p0_q) → Prf (not p0_r) → Prf bot ≔ λ (v9 : Prf (not p0_q)), λ (v10 : Prf (not p0_r)), v5 (λ (v11 : Prf p0_p), v6 v11) v9 v10 in
+let v10 : Prf (not p0_r) → Prf bot ≔ λ (v10 : Prf (not p0_r)), v9 (λ (v11 : Prf p0_q), v7 v11) v10 in
+let v11 : Prf bot ≔ v10 (λ (v11 : Prf p0_r), v8 v11) in
+v11 bot);
+";
+
 #[test]
-fn developments_written_out(rt: HostRuntime) -> Result<(), Fail> {
+fn contradiction_and_falsity(rt: HostRuntime) -> Result<(), Fail> {
     let alloc = rt.alloc();
-    let contradiction = [
+    let rows = [
         ("p", Row::Leaf(0)),
         ("~p", Row::Leaf(1)),
         ("", Row::Resolve(0, 1, &[0], &[0])),
     ];
-    let cases = [
+    let formulas = vec![in alloc; atom(alloc, b'p')?, not(alloc, b'p')?]?;
+    let made = text(alloc, formulas, &rows)?;
+    assert_eq!(rt; made.as_slice(), CONTRADICTION.as_bytes());
+    let made = text(
+        alloc,
+        vec![in alloc; Formula::False]?,
+        &[("", Row::Leaf(0))],
+    )?;
+    assert_eq!(rt; made.as_slice(), FALSITY.as_bytes());
+    Ok(())
+}
+
+#[test]
+fn two_cases(rt: HostRuntime) -> Result<(), Fail> {
+    let alloc = rt.alloc();
+    let rows = [
         ("p|q", Row::Leaf(0)),
         ("~p", Row::Leaf(1)),
         ("~q", Row::Leaf(2)),
         ("q", Row::Resolve(0, 1, &[1, 0], &[1])),
         ("", Row::Resolve(3, 2, &[0], &[0])),
     ];
-    let pivots = [
+    let first = or(alloc, atom(alloc, b'p')?, atom(alloc, b'q')?)?;
+    let formulas = vec![in alloc; first, not(alloc, b'p')?, not(alloc, b'q')?]?;
+    let made = text(alloc, formulas, &rows)?;
+    assert_eq!(rt; made.as_slice(), CASES.as_bytes());
+    Ok(())
+}
+
+#[test]
+fn many_pivots(rt: HostRuntime) -> Result<(), Fail> {
+    let alloc = rt.alloc();
+    let rows = [
         ("p|q|p", Row::Leaf(0)),
         ("~p|~p", Row::Leaf(1)),
         ("~q", Row::Leaf(2)),
@@ -233,14 +215,37 @@ fn developments_written_out(rt: HostRuntime) -> Result<(), Fail> {
         ("p", Row::Leaf(3)),
         ("", Row::Resolve(7, 6, &[0], &[0])),
     ];
-    let made = text(alloc, &["p", "~p"], &contradiction)?;
-    assert_eq!(rt; made.as_slice(), CONTRADICTION.as_bytes());
-    let made = text(alloc, &["p|q", "~p", "~q"], &cases)?;
-    assert_eq!(rt; made.as_slice(), CASES.as_bytes());
-    let made = text(alloc, &["p|q|p", "~p|~p", "~q", "p"], &pivots)?;
+    let front = or(alloc, atom(alloc, b'p')?, atom(alloc, b'q')?)?;
+    let first = or(alloc, front, atom(alloc, b'p')?)?;
+    let second = or(alloc, not(alloc, b'p')?, not(alloc, b'p')?)?;
+    let formulas = vec![in alloc; first, second, not(alloc, b'q')?, atom(alloc, b'p')?]?;
+    let made = text(alloc, formulas, &rows)?;
     assert_eq!(rt; made.as_slice(), PIVOTS.as_bytes());
-    let made = text(alloc, &[""], &[("", Row::Leaf(0))])?;
-    assert_eq!(rt; made.as_slice(), FALSITY.as_bytes());
+    Ok(())
+}
+
+#[test]
+fn nested_to_the_right(rt: HostRuntime) -> Result<(), Fail> {
+    let alloc = rt.alloc();
+    let rows = [
+        ("p|q|r", Row::Leaf(0)),
+        ("~p", Row::Leaf(1)),
+        ("~q", Row::Leaf(2)),
+        ("~r", Row::Leaf(3)),
+        ("q|r", Row::Resolve(0, 1, &[2, 0, 1], &[2])),
+        ("r", Row::Resolve(4, 2, &[1, 0], &[1])),
+        ("", Row::Resolve(5, 3, &[0], &[0])),
+    ];
+    let back = or(alloc, atom(alloc, b'q')?, atom(alloc, b'r')?)?;
+    let first = or(alloc, atom(alloc, b'p')?, back)?;
+    let others = vec![in alloc;
+        first,
+        not(alloc, b'p')?,
+        not(alloc, b'q')?,
+        not(alloc, b'r')?,
+    ]?;
+    let made = text(alloc, others, &rows)?;
+    assert_eq!(rt; made.as_slice(), NESTED.as_bytes());
     Ok(())
 }
 
@@ -248,13 +253,13 @@ fn developments_written_out(rt: HostRuntime) -> Result<(), Fail> {
 #[test]
 fn long_development(rt: HostRuntime) -> Result<(), Fail> {
     let alloc = rt.alloc();
-    let mut hypotheses = Vec::new(alloc);
-    let mut instances = Vec::new(alloc);
+    let mut formulas = Vec::new(alloc);
+    let mut instances = Seq::from_vec(Vec::new(alloc));
     for place in 0..10_000 {
-        hypotheses.push(hypothesis(alloc, "p")?)?;
+        formulas.push(atom(alloc, b'p')?)?;
         instances.push(instance(alloc, "p", Row::Leaf(place))?)?;
     }
-    let dev = development(alloc, hypotheses.as_slice(), instances.as_slice())?;
+    let dev = development(alloc, &problem(alloc, formulas)?, &instances)?;
     assert_eq!(rt; dev.commands.len(), 25);
     Ok(())
 }

@@ -1,7 +1,7 @@
 -- The least picks of a clause are made from those of the clause without its first literal.
 use Rattle.std.proofs.Common.{◌≡◌, ◌<◌, ℕ, zero, suc, List, [], ◌∷◌, Option, Some, None, length, slice_get, arith, ◌⊎◌, inl, inr, Contains}
 use Rattle.std.proofs.lemmas.Option.{slice_get_within}
-use Rattle.flat_text.specs.declared.Literal.{Literal}
+use Rattle.flat_form.specs.declared.Literal.{Literal}
 use Rattle.flat_steps.specs.Candidates.{IsPicked, ArePicked, Cuts, IsListBefore}
 use Rattle.flat_steps.specs.Choices.{IsFirstPlace, IsPivotPick, IsLeastList, prepend, first_of_two}
 

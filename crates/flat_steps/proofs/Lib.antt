@@ -6,4 +6,6 @@ pub mod Walks
 pub mod VerdictLaws
 pub mod PlanLaws
 pub mod BaseLaws
+pub mod OrderLaws
 pub mod TaskLaws
+pub mod RankLaws

@@ -3,7 +3,7 @@ use Rattle.std.proofs.Common.{◌≡◌, ◌<◌, ◌+◌, ℕ, suc, List, [], �
 use Rattle.std.proofs.lemmas.Option.{slice_get_within}
 use Rattle.std.proofs.lemmas.List.Elements.{Contains-append_left, Contains-append_right, Contains-append_cases}
 use Rattle.std.proofs.lemmas.List.{take_more}
-use Rattle.flat_text.specs.declared.Literal.{Literal}
+use Rattle.flat_form.specs.declared.Literal.{Literal}
 use Rattle.flat_steps.specs.declared.pairs.Pair.{Pair}
 use Rattle.flat_steps.specs.Candidates.{IsPicked, ArePicked, affirmed}
 use Rattle.flat_steps.specs.Choices.{IsLeastPair, ResolvesAmong, ResolvesSomehow, lesser}

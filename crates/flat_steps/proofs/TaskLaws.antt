@@ -6,7 +6,8 @@ use Rattle.flat_steps.specs.declared.plan.Base.{Base}
 use Rattle.flat_steps.specs.declared.plan.Base.TheVariants.{Hypothesis as FromHypothesis, Structural, Subsume, Resolve}
 use Rattle.flat_steps.specs.declared.visiting.Task.{Task}
 use Rattle.flat_steps.specs.declared.visiting.Task.TheVariants.{Visit, Append}
-use Rattle.flat_steps.specs.Plan.{needs, HasEarlierNeeds, Visits, done, seen, fresh}
+use Rattle.flat_steps.specs.Plan.{needs, Visits, done, seen, fresh}
+use Rattle.flat_steps.specs.Ranks.{HasEarlierNeeds}
 use Rattle.flat_steps.specs.Tasks.{visits_of, BeginsVisit, DoesTask, Does, AreTasksBelow, effort}
 use Rattle.flat_steps.proofs.BaseLaws.{visits_then}
 
@@ -32,12 +33,13 @@ all_visits_below : (n : ℕ) (ns : List ℕ) (tasks : List Task) → All (λ k. 
 all_visits_below n [] tasks all below = below
 all_visits_below n (k ∷ ns) tasks all below = (all 0 0 (omega arith), all_visits_below n ns tasks (λ j d l. all (suc j) d (omega arith)) below)
 
-pub begin_below : (bases : List Base) (list : List ℕ) (step : ℕ) (old new : List Task) → HasEarlierNeeds bases → step < length bases
-    → AreTasksBelow (length bases) old → BeginsVisit bases list step old new → AreTasksBelow (length bases) new
-begin_below bases list step old new earlier l below (inl w) = subst (AreTasksBelow (length bases)) (sym w.1) below
-begin_below bases list step old new earlier l below (inr w) =
-    subst (AreTasksBelow (length bases)) (sym w.1.2)
-    (all_visits_below (length bases) (needs w.1.0) (Append step ∷ old) (λ k d m. let b = earlier step w.1.0 w.1.1 k d m in omega arith) below)
+module _ (rank : ℕ → ℕ) where
+  pub begin_below : (bases : List Base) (list : List ℕ) (step : ℕ) (old new : List Task) → HasEarlierNeeds rank bases → step < length bases
+      → AreTasksBelow (length bases) old → BeginsVisit bases list step old new → AreTasksBelow (length bases) new
+  begin_below bases list step old new earlier l below (inl w) = subst (AreTasksBelow (length bases)) (sym w.1) below
+  begin_below bases list step old new earlier l below (inr w) =
+      subst (AreTasksBelow (length bases)) (sym w.1.2)
+      (all_visits_below (length bases) (needs w.1.0) (Append step ∷ old) (λ k d m. (earlier step w.1.0 w.1.1 k d m).0) below)
 
 smaller : (a step : ℕ) → a < step → 4 ^ (a + 1) ≤ 4 ^ step
 smaller a step l = pow-le-pow_right {n = 4} (omega arith) {i = a + 1} {j = step} (omega arith)
@@ -48,33 +50,37 @@ positive step = one-le-pow step 4 (omega arith)
 next : (step : ℕ) → 4 ^ (step + 1) ≡ 4 * 4 ^ step
 next step = rw add-one (pow-succ' 4 step)
 
-effort_of_needs : (base : Base) (step : ℕ) (old : List Task) → All (λ k. k < step) (needs base)
-    → effort (visits_of (needs base) ++ Append step ∷ old) < 4 ^ (step + 1) + effort old
-effort_of_needs (FromHypothesis place) step old all = let p = positive step in let e = next step in omega arith
-effort_of_needs (Structural a) step old all = let p = positive step in let e = next step in let s = smaller a step (all 0 0 (omega arith)) in omega arith
-effort_of_needs (Subsume a picks) step old all = let p = positive step in let e = next step in let s = smaller a step (all 0 0 (omega arith)) in omega arith
-effort_of_needs (Resolve a b picks others) step old all =
-    let p = positive step in let e = next step in let s = smaller a step (all 0 0 (omega arith)) in let r = smaller b step (all 1 0 (omega arith)) in omega arith
+module _ (rank : ℕ → ℕ) where
+  effort_of_needs : (base : Base) (step : ℕ) (old : List Task) → All (λ k. rank k < rank step) (needs base)
+      → effort rank (visits_of (needs base) ++ Append step ∷ old) < 4 ^ (rank step + 1) + effort rank old
+  effort_of_needs (FromHypothesis place) step old all = let p = positive (rank step) in let e = next (rank step) in omega arith
+  effort_of_needs (Structural a) step old all =
+      let p = positive (rank step) in let e = next (rank step) in let s = smaller (rank a) (rank step) (all 0 0 (omega arith)) in omega arith
+  effort_of_needs (Subsume a picks) step old all =
+      let p = positive (rank step) in let e = next (rank step) in let s = smaller (rank a) (rank step) (all 0 0 (omega arith)) in omega arith
+  effort_of_needs (Resolve a b picks others) step old all =
+      let p = positive (rank step) in let e = next (rank step) in let s = smaller (rank a) (rank step) (all 0 0 (omega arith)) in
+      let r = smaller (rank b) (rank step) (all 1 0 (omega arith)) in omega arith
 
-pub begin_effort : (bases : List Base) (list : List ℕ) (step : ℕ) (old new : List Task) → HasEarlierNeeds bases
-    → BeginsVisit bases list step old new → effort new < effort (Visit step ∷ old)
-begin_effort bases list step old new earlier (inl w) = let p = positive (step + 1) in let e = ap effort w.1 in omega arith
-begin_effort bases list step old new earlier (inr w) =
-    let e = ap effort w.1.2 in let l = effort_of_needs w.1.0 step old (earlier step w.1.0 w.1.1) in omega arith
+  pub begin_effort : (bases : List Base) (list : List ℕ) (step : ℕ) (old new : List Task) → HasEarlierNeeds rank bases
+      → BeginsVisit bases list step old new → effort rank new < effort rank (Visit step ∷ old)
+  begin_effort bases list step old new earlier (inl w) = let p = positive (rank step + 1) in let e = ap (effort rank) w.1 in omega arith
+  begin_effort bases list step old new earlier (inr w) =
+      let e = ap (effort rank) w.1.2 in let l = effort_of_needs w.1.0 step old (λ k d m. (earlier step w.1.0 w.1.1 k d m).1) in omega arith
 
 module _ (bases : List Base) (list after_list : List ℕ) (old new : List Task) where
   pub task_does : (task : Task) (after : List ℕ) → DoesTask bases task list old after_list new → Does bases after_list new after → Does bases list (task ∷ old) after
   task_does (Visit step) after t h = begin_does bases list step old new after t.1 (subst (λ z. Does bases z new after) t.0 h)
   task_does (Append step) after t h = subst (λ z. Does bases z old after) t.0 (subst (λ z. Does bases after_list z after) t.1 h)
 
-  pub task_below : (task : Task) → HasEarlierNeeds bases → DoesTask bases task list old after_list new
+  pub task_below : (rank : ℕ → ℕ) (task : Task) → HasEarlierNeeds rank bases → DoesTask bases task list old after_list new
       → AreTasksBelow (length bases) (task ∷ old) → AreTasksBelow (length bases) new
-  task_below (Visit step) earlier t below = begin_below bases list step old new earlier below.0 below.1 t.1
-  task_below (Append step) earlier t below = subst (AreTasksBelow (length bases)) (sym t.1) below
+  task_below rank (Visit step) earlier t below = begin_below rank bases list step old new earlier below.0 below.1 t.1
+  task_below rank (Append step) earlier t below = subst (AreTasksBelow (length bases)) (sym t.1) below
 
-  pub task_effort : (task : Task) → HasEarlierNeeds bases → DoesTask bases task list old after_list new → effort new < effort (task ∷ old)
-  task_effort (Visit step) earlier t = begin_effort bases list step old new earlier t.1
-  task_effort (Append step) earlier t = let e = ap effort t.1 in omega arith
+  pub task_effort : (rank : ℕ → ℕ) (task : Task) → HasEarlierNeeds rank bases → DoesTask bases task list old after_list new → effort rank new < effort rank (task ∷ old)
+  task_effort rank (Visit step) earlier t = begin_effort rank bases list step old new earlier t.1
+  task_effort rank (Append step) earlier t = let e = ap (effort rank) t.1 in omega arith
 
 pub first_below : (place : ℕ) (task : Task) (tasks : List Task) → AreTasksBelow place (task ∷ tasks) → AreTasksBelow place (task ∷ [])
 first_below place (Visit step) tasks below = (below.0, tt)

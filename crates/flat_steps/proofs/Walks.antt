@@ -4,8 +4,7 @@ use Rattle.std.proofs.lemmas.Option.{slice_get_within, slice_get-map, slice_get-
 use Rattle.std.proofs.lemmas.Bool.{cases_order}
 use Rattle.std.proofs.lemmas.List.{length-map}
 use Rattle.std.specs.Option.{option_map}
-use Rattle.flat_text.specs.declared.Literal.{Literal}
-use Rattle.flat_text.specs.declared.Step.{Step}
+use Rattle.flat_form.specs.declared.Literal.{Literal}
 use Rattle.flat_steps.specs.declared.pairs.Pair.{Pair}
 use Rattle.flat_steps.specs.declared.justification.Candidate.{Candidate}
 use Rattle.flat_steps.specs.declared.justification.Candidate.TheVariants.{Subsume, Resolve}
@@ -14,13 +13,13 @@ use Rattle.flat_steps.specs.Choices.{IsLeastList, IsLeastPair, IsLeastCandidate,
 use Rattle.flat_steps.specs.Verdicts.{clause_at}
 
 -- The clause of a parent.
-pub parent_clause : (steps : List Step) (parents : List ℕ) (i : ℕ) (clause : List Literal) → i < length parents
-    → clause ≡ clause_at steps (get_or parents i 0) → slice_get (map (clause_at steps) parents) i ≡ Some clause
-parent_clause steps parents i clause l e =
-    slice_get-map (clause_at steps) parents i ∙ ap (option_map (clause_at steps)) (slice_get-get_or parents i 0 l) ∙ ap Some (sym e)
+pub parent_clause : (table : List (List Literal)) (parents : List ℕ) (i : ℕ) (clause : List Literal) → i < length parents
+    → clause ≡ clause_at table (get_or parents i 0) → slice_get (map (clause_at table) parents) i ≡ Some clause
+parent_clause table parents i clause l e =
+    slice_get-map (clause_at table) parents i ∙ ap (option_map (clause_at table)) (slice_get-get_or parents i 0 l) ∙ ap Some (sym e)
 
-pub past_parents : (steps : List Step) (parents : List ℕ) (i : ℕ) → length parents ≤ i → length (map (clause_at steps) parents) ≤ i
-past_parents steps parents i l = omega (arith, length-map parents (clause_at steps))
+pub past_parents : (table : List (List Literal)) (parents : List ℕ) (i : ℕ) → length parents ≤ i → length (map (clause_at table) parents) ≤ i
+past_parents table parents i l = omega (arith, length-map parents (clause_at table))
 
 -- Below i + 1 is below i or i.
 pub below_or_at : (k i : ℕ) → k < i + 1 → (k < i) ⊎ (k ≡ i)

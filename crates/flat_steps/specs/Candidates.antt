@@ -1,6 +1,6 @@
 -- The ways in which a clause may follow from its parents' clauses, which of them work, and their order.
 use Rattle.std.specs.Prelude.{◌≡◌, ℕ, ◌<◌, ◌⊎◌, List, [], ◌∷◌, Some, length, slice_get, Contains, true, false}
-use Rattle.flat_text.specs.declared.Literal.{Literal}
+use Rattle.flat_form.specs.declared.Literal.{Literal}
 use Rattle.flat_steps.specs.declared.justification.Candidate.{Candidate}
 use Rattle.flat_steps.specs.declared.justification.Candidate.TheVariants.{Subsume, Resolve}
 

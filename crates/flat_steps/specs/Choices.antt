@@ -1,7 +1,7 @@
 -- The least of the choices that have a property, where there is one.
 use Rattle.std.specs.Prelude.{◌≡◌, ℕ, ◌<◌, List, [], ◌∷◌, Option, Some, None, MatchOption, slice_get, length, Contains, Bool, true, false, cond, nat_lt, nat_eq, ◌&&◌, ◌||◌}
 use Rattle.std.specs.Cmp.Lexicographic.{pointwise}
-use Rattle.flat_text.specs.declared.Literal.{Literal}
+use Rattle.flat_form.specs.declared.Literal.{Literal}
 use Rattle.flat_steps.specs.declared.justification.Candidate.{Candidate}
 use Rattle.flat_steps.specs.declared.justification.Candidate.TheVariants.{Subsume, Resolve}
 use Rattle.flat_steps.specs.declared.pairs.Pair.{Pair}

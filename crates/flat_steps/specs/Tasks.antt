@@ -33,8 +33,8 @@ AreTasksBelow place [] = Unit {0}
 AreTasksBelow place (Visit step ∷ tasks) = (step < place) × AreTasksBelow place tasks
 AreTasksBelow place (Append step ∷ tasks) = AreTasksBelow place tasks
 
--- A bound on the number of tasks that tasks lead to.
-abbrev pub effort : List Task → ℕ
-effort [] = 0
-effort (Visit step ∷ tasks) = 4 ^ (step + 1) + effort tasks
-effort (Append step ∷ tasks) = 1 + effort tasks
+-- A bound on the number of tasks that tasks lead to, by the ranks of the steps.
+abbrev pub effort : (ℕ → ℕ) → List Task → ℕ
+effort rank [] = 0
+effort rank (Visit step ∷ tasks) = 4 ^ (rank step + 1) + effort rank tasks
+effort rank (Append step ∷ tasks) = 1 + effort rank tasks

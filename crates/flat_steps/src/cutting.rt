@@ -5,7 +5,7 @@ ghost use Rattle.flat_steps.specs.Choices.{IsLeastList, prepend, first_of_two};
 
 use crate::picks::{first_place, pivot_pick, prepended};
 use dk_syntax::{NoMemory, Seq};
-use flat_text::Literal;
+use flat_form::Literal;
 use std::alloc::Global;
 
 /// The least picks for a clause whose literals may be pivots, and the least with a pivot.

@@ -1,34 +1,19 @@
 //! The verdict on each step.
-ghost use Rattle.std.specs.Prelude.{◌≡◌, ◌<◌, ◌↔◌, ◌∷◌, [], ℕ, length, map, slice_get, Some, All, IfOk, IsTrue, MatchOption};
-ghost use Rattle.std.specs.List.{list_any};
-ghost use Rattle.std.specs.Cmp.Lexicographic.{pointwise};
-ghost use Rattle.flat_text.specs.Items.{places_of};
-ghost use Rattle.flat_steps.specs.Verdicts.{clause_at, place_of_name, has_atom, stands_in, first_alien, IsLeafVerdict, IsStructural, IsInferenceVerdict, IsVerdict};
+ghost use Rattle.std.specs.Prelude.{◌≡◌, ◌<◌, ℕ, length, map, All, IfOk, MatchOption};
+ghost use Rattle.flat_form.specs.Literals.{literals_of};
+ghost use Rattle.flat_steps.specs.Ranks.{AreParentsBelow};
+ghost use Rattle.flat_steps.specs.Verdicts.{clause_at, clauses_of, place_of_name, has_atom, stands_in, first_alien, parents_at, IsLeafVerdict, IsStructural, IsInferenceVerdict, HasVerdict};
 
 use crate::picks::number;
-use crate::resolution::{clause_of_step, least_justification};
+use crate::resolution::{clause_in, least_justification};
 use crate::verdicts::{Reason, Verdict};
-use dk_syntax::{Name, NoMemory};
-use flat_text::{Hypothesis, Literal, Source, Step};
+use dk_syntax::{Formula, Name, Named, NoMemory, Seq, alpha_eq};
+use flat_form::Literal;
 use std::alloc::Global;
-
-/// Whether two clauses are the same.
-fn same_clause(these: &[Literal], those: &[Literal]) -> bool
-    ensures { IsTrue result ↔ (these.now ≡ those.now) }
-{
-    if these.len() != those.len() {
-        return false;
-    }
-    for place in 0..these.len() {
-        if !these[place].same(&those[place]) {
-            return false;
-        }
-    }
-    true
-}
+use tstp_trace::{Step, StepSource};
 
 /// The place of the first hypothesis of that name.
-fn find_name(hypotheses: &[Hypothesis], name: &Name) -> Option<usize>
+fn find_name(hypotheses: &[Named], name: &Name) -> Option<usize>
     ensures { result ≡ place_of_name hypotheses.now name.now }
 {
     hypotheses
@@ -37,17 +22,13 @@ fn find_name(hypotheses: &[Hypothesis], name: &Name) -> Option<usize>
 }
 
 /// The verdict on a leaf.
-fn leaf_verdict(
-    hypotheses: &[Hypothesis],
-    clause: &[Literal],
-    name: &Name,
-) -> Result<Verdict, NoMemory>
-    ensures { IfOk result (λ verdict. IsLeafVerdict hypotheses.now clause.now name.now verdict) }
+fn leaf_verdict(hypotheses: &[Named], formula: &Formula, name: &Name) -> Result<Verdict, NoMemory>
+    ensures { IfOk result (λ verdict. IsLeafVerdict hypotheses.now formula.now name.now verdict) }
 {
     match find_name(hypotheses, name) {
         None => Ok(Verdict::Wrong(Reason::UnknownLeaf)),
         Some(place) => {
-            if same_clause(hypotheses[place].clause.as_slice(), clause) {
+            if alpha_eq(&hypotheses[place].formula, formula) {
                 let hypothesis = number(place)?;
                 Ok(Verdict::Leaf(hypothesis))
             } else {
@@ -65,12 +46,12 @@ fn clause_has_atom(clause: &[Literal], atom: &Name) -> bool
 }
 
 /// Whether an atom stands in a parent's clause.
-fn parents_have_atom(steps: &[Step], parents: &[u32], atom: &Name) -> bool
-    requires { All (λ parent. parent < length steps.now) parents.now }
-    ensures { result ≡ stands_in (map (clause_at steps.now) parents.now) atom.now }
+fn parents_have_atom(clauses: &[Seq<Literal>], parents: &[u32], atom: &Name) -> bool
+    requires { All (λ parent. parent < length clauses.now) parents.now }
+    ensures { result ≡ stands_in (map (clause_at clauses.now) parents.now) atom.now }
 {
     for parent in 0..parents.len() {
-        if clause_has_atom(clause_of_step(steps, parents[parent]), atom) {
+        if clause_has_atom(clause_in(clauses, parents[parent]), atom) {
             return true;
         }
     }
@@ -81,14 +62,14 @@ fn parents_have_atom(steps: &[Step], parents: &[u32], atom: &Name) -> bool
 fn find_alien(
     alloc: Global,
     clause: &[Literal],
-    steps: &[Step],
+    clauses: &[Seq<Literal>],
     parents: &[u32],
 ) -> Result<Option<Name>, NoMemory>
-    requires { All (λ parent. parent < length steps.now) parents.now }
-    ensures { IfOk result (λ alien. alien ≡ first_alien (map (clause_at steps.now) parents.now) clause.now) }
+    requires { All (λ parent. parent < length clauses.now) parents.now }
+    ensures { IfOk result (λ alien. alien ≡ first_alien (map (clause_at clauses.now) parents.now) clause.now) }
 {
     for literal in clause {
-        if !parents_have_atom(steps, parents, &literal.atom) {
+        if !parents_have_atom(clauses, parents, &literal.atom) {
             let alien = literal.atom.copy(alloc)?;
             return Ok(Some(alien));
         }
@@ -96,16 +77,17 @@ fn find_alien(
     Ok(None)
 }
 
-/// The parent, where there is one alone and its clause is the same.
-fn structural_parent(clause: &[Literal], steps: &[Step], parents: &[u32]) -> Option<u32>
+/// The parent, where there is one alone and its formula is the same.
+fn structural_parent(formula: &Formula, steps: &[Step], parents: &[u32]) -> Option<u32>
     requires { All (λ parent. parent < length steps.now) parents.now }
-    ensures { MatchOption result ((parent : ℕ) → IsStructural steps.now clause.now parents.now parent → ⊥) (λ parent. IsStructural steps.now clause.now parents.now parent) }
+    ensures { MatchOption result ((parent : ℕ) → IsStructural steps.now formula.now parents.now parent → ⊥) (λ parent. IsStructural steps.now formula.now parents.now parent) }
 {
     if parents.len() != 1 {
         return None;
     }
-    if same_clause(clause_of_step(steps, parents[0]), clause) {
-        Some(parents[0])
+    let parent = parents[0];
+    if alpha_eq(&steps[parent as usize].formula, formula) {
+        Some(parent)
     } else {
         None
     }
@@ -114,49 +96,65 @@ fn structural_parent(clause: &[Literal], steps: &[Step], parents: &[u32]) -> Opt
 /// The verdict on a step that comes from other steps.
 fn inference_verdict(
     alloc: Global,
+    formula: &Formula,
     clause: &[Literal],
     steps: &[Step],
+    clauses: &[Seq<Literal>],
     parents: &[u32],
 ) -> Result<Verdict, NoMemory>
-    requires { All (λ parent. parent < length steps.now) parents.now }
-    ensures { IfOk result (λ verdict. IsInferenceVerdict steps.now clause.now parents.now verdict) }
+    requires clause { clause.now ≡ literals_of formula.now }
+    requires clauses { clauses.now ≡ clauses_of steps.now }
+    requires below { All (λ parent. parent < length steps.now) parents.now }
+    requires within { All (λ parent. parent < length clauses.now) parents.now }
+    ensures { IfOk result (λ verdict. IsInferenceVerdict steps.now formula.now parents.now verdict) }
 {
-    if let Some(parent) = structural_parent(clause, steps, parents) {
+    if let Some(parent) = structural_parent(formula, steps, parents) {
         return Ok(Verdict::Structural(parent));
     }
-    let alien = find_alien(alloc, clause, steps, parents)?;
+    let alien = find_alien(alloc, clause, clauses, parents)?;
     if let Some(atom) = alien {
         return Ok(Verdict::Wrong(Reason::AlienSymbol(atom)));
     }
-    let justification = least_justification(alloc, clause, steps, parents)?;
+    let justification = least_justification(alloc, clause, clauses, parents)?;
     match justification {
         Some(candidate) => Ok(Verdict::Clausal(candidate)),
         None => Ok(Verdict::Wrong(Reason::Unjustified)),
     }
 }
 
-/// The verdict on a step.
-pub fn verdict_on(
-    alloc: Global,
-    hypotheses: &[Hypothesis],
-    steps: &[Step],
-    step: &Step,
-) -> Result<Verdict, NoMemory>
-    requires { All (λ parent. parent < length steps.now) (places_of step.now.source) }
-    ensures { IfOk result (λ verdict. IsVerdict hypotheses.now steps.now step.now.clause step.now.source verdict) }
+/// The places of the parents of the step at a place.
+pub fn parents_of(parents: &[Seq<u32>], place: usize) -> &[u32]
+    requires { place < length parents.now }
+    ensures { result.now ≡ parents_at parents.now place }
 {
+    parents[place].as_slice()
+}
+
+/// The verdict on the step at a place.
+pub fn verdict_at(
+    alloc: Global,
+    hypotheses: &[Named],
+    steps: &[Step],
+    clauses: &[Seq<Literal>],
+    parents: &[Seq<u32>],
+    place: usize,
+) -> Result<Verdict, NoMemory>
+    requires clauses { clauses.now ≡ clauses_of steps.now }
+    requires long { length parents.now ≡ length steps.now }
+    requires below { AreParentsBelow (length steps.now) parents.now }
+    requires stands { place < length steps.now }
+    ensures { IfOk result (λ verdict. HasVerdict hypotheses.now steps.now parents.now place verdict) }
+{
+    let step = &steps[place];
     match &step.source {
-        Source::File(name) => {
-            let verdict = leaf_verdict(hypotheses, step.clause.as_slice(), name)?;
+        StepSource::Leaf(name) => {
+            let verdict = leaf_verdict(hypotheses, &step.formula, name)?;
             Ok(verdict)
         }
-        Source::Inference(parents) => {
-            let verdict = inference_verdict(
-                alloc,
-                step.clause.as_slice(),
-                steps,
-                parents.as_slice(),
-            )?;
+        StepSource::Derived { .. } => {
+            let clause = clauses[place].as_slice();
+            let places = parents_of(parents, place);
+            let verdict = inference_verdict(alloc, &step.formula, clause, steps, clauses, places)?;
             Ok(verdict)
         }
     }

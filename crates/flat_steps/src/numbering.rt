@@ -4,9 +4,9 @@ ghost use Rattle.flat_steps.specs.Plan.{number_in, numbered, instance_of};
 
 use crate::picks::number;
 use crate::plan::{Base, Instance};
-use crate::resolution::clause_of_step;
+use crate::resolution::clause_in;
 use dk_syntax::{NoMemory, Seq};
-use flat_text::{Step, copy_literals};
+use flat_form::{Literal, copy_literals};
 use std::alloc::Global;
 
 /// The number of a step's instance.
@@ -23,7 +23,7 @@ fn number_of(list: &[u32], step: u32) -> Result<u32, NoMemory>
     Ok(past)
 }
 
-fn copy_picks(alloc: Global, picks: &Seq<u32>) -> Result<Seq<u32>, NoMemory>
+pub fn copy_picks(alloc: Global, picks: &Seq<u32>) -> Result<Seq<u32>, NoMemory>
     ensures { IfOk result (λ same. same ≡ picks.now) }
 {
     let items = Vec::from_slice(alloc, picks.as_slice())?;
@@ -89,16 +89,16 @@ fn numbered_base(alloc: Global, list: &[u32], base: &Base) -> Result<Base, NoMem
 /// The instance of a step.
 fn instance_at(
     alloc: Global,
-    steps: &[Step],
+    clauses: &[Seq<Literal>],
     bases: &[Base],
     list: &[u32],
     step: u32,
 ) -> Result<Instance, NoMemory>
-    requires stands { step < length steps.now }
-    requires long { length bases.now ≡ length steps.now }
-    ensures { IfOk result (λ instance. instance ≡ instance_of steps.now bases.now list.now step) }
+    requires stands { step < length clauses.now }
+    requires long { length bases.now ≡ length clauses.now }
+    ensures { IfOk result (λ instance. instance ≡ instance_of clauses.now bases.now list.now step) }
 {
-    let clause = copy_literals(alloc, clause_of_step(steps, step))?;
+    let clause = copy_literals(alloc, clause_in(clauses, step))?;
     let base = numbered_base(alloc, list, &bases[step as usize])?;
     Ok(Instance { step, clause, base })
 }
@@ -106,17 +106,17 @@ fn instance_at(
 /// The instances of the steps in the list.
 pub fn instances_of(
     alloc: Global,
-    steps: &[Step],
+    clauses: &[Seq<Literal>],
     bases: &[Base],
     list: &[u32],
 ) -> Result<Seq<Instance>, NoMemory>
-    requires stand { All (λ step. step < length steps.now) list.now }
-    requires long { length bases.now ≡ length steps.now }
-    ensures { IfOk result (λ all. all ≡ map (instance_of steps.now bases.now list.now) list.now) }
+    requires stand { All (λ step. step < length clauses.now) list.now }
+    requires long { length bases.now ≡ length clauses.now }
+    ensures { IfOk result (λ all. all ≡ map (instance_of clauses.now bases.now list.now) list.now) }
 {
     let mut all = Vec::new(alloc);
     for step in list {
-        let instance = instance_at(alloc, steps, bases, list, *step)?;
+        let instance = instance_at(alloc, clauses, bases, list, *step)?;
         all.push(instance)?;
     }
     Ok(Seq::from_vec(all))

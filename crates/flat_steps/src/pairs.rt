@@ -5,7 +5,7 @@ ghost use Rattle.flat_steps.specs.Choices.{IsLeastPair, ResolvesAmong, ResolvesS
 
 use crate::cutting::least_cut;
 use dk_syntax::{Name, NoMemory, Seq};
-use flat_text::Literal;
+use flat_form::Literal;
 use std::alloc::Global;
 
 /// Picks for the clause with positive pivots and for the one with negative pivots.

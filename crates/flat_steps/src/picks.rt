@@ -3,7 +3,7 @@ ghost use Rattle.std.specs.Prelude.{◌≡◌, ◌∷◌, IfOk};
 ghost use Rattle.flat_steps.specs.Choices.{IsFirstPlace, IsPivotPick, prepend};
 
 use dk_syntax::{NoMemory, Seq};
-use flat_text::Literal;
+use flat_form::Literal;
 use std::alloc::Global;
 
 /// The same number, where it fits.

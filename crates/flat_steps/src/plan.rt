@@ -1,7 +1,7 @@
 //! The instances of a plan.
 use crate::verdicts::Reason;
 use dk_syntax::{NoMemory, Seq};
-use flat_text::Literal;
+use flat_form::Literal;
 use std::alloc::AllocFailed;
 
 /// Where the proof term of an instance comes from. Instances are counted from 0 in the plan, and an
@@ -39,9 +39,7 @@ pub struct Instance {
 /// Why there is no plan.
 #[derive(Debug, Drop)]
 pub enum PlanFault {
-    /// No step has the empty clause.
-    NoRefutation,
-    /// The step at this place, counted from 0, is the first that is wrong.
+    /// The step of this number, counted from 1, is the first that is wrong.
     Wrong { step: u32, reason: Reason },
     /// There was no memory.
     Memory,

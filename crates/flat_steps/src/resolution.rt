@@ -8,30 +8,30 @@ use crate::cutting::subsuming;
 use crate::justification::Candidate;
 use crate::pairs::{Pair, least_pair};
 use crate::picks::number;
-use dk_syntax::NoMemory;
-use flat_text::{Literal, Step};
+use dk_syntax::{NoMemory, Seq};
+use flat_form::Literal;
 use std::alloc::Global;
 
-/// The clause of the step at a place.
-pub fn clause_of_step(steps: &[Step], place: u32) -> &[Literal]
-    requires { place < length steps.now }
-    ensures { result.now ≡ clause_at steps.now place }
+/// The clause at a place.
+pub fn clause_in(clauses: &[Seq<Literal>], place: u32) -> &[Literal]
+    requires { place < length clauses.now }
+    ensures { result.now ≡ clause_at clauses.now place }
 {
-    steps[place as usize].clause.as_slice()
+    clauses[place as usize].as_slice()
 }
 
 /// The least subsumption.
 fn least_subsumption(
     alloc: Global,
     target: &[Literal],
-    steps: &[Step],
+    clauses: &[Seq<Literal>],
     parents: &[u32],
 ) -> Result<Option<Candidate>, NoMemory>
-    requires { All (λ parent. parent < length steps.now) parents.now }
-    ensures { IfOk result (λ answer. IsLeastCandidate (λ c. Works target.now (map (clause_at steps.now) parents.now) c × IsSubsumption c) answer) }
+    requires { All (λ parent. parent < length clauses.now) parents.now }
+    ensures { IfOk result (λ answer. IsLeastCandidate (λ c. Works target.now (map (clause_at clauses.now) parents.now) c × IsSubsumption c) answer) }
 {
     for parent in 0..parents.len() {
-        let found = subsuming(alloc, target, clause_of_step(steps, parents[parent]))?;
+        let found = subsuming(alloc, target, clause_in(clauses, parents[parent]))?;
         if let Some(picks) = found {
             let place = number(parent)?;
             return Ok(Some(Candidate::Subsume(place, picks)));
@@ -44,20 +44,20 @@ fn least_subsumption(
 fn least_resolution_by(
     alloc: Global,
     target: &[Literal],
-    steps: &[Step],
+    clauses: &[Seq<Literal>],
     parents: &[u32],
     positive: usize,
 ) -> Result<Option<Candidate>, NoMemory>
-    requires within { All (λ parent. parent < length steps.now) parents.now }
+    requires within { All (λ parent. parent < length clauses.now) parents.now }
     requires stands { positive < length parents.now }
-    ensures { IfOk result (λ answer. IsLeastCandidate (λ c. Works target.now (map (clause_at steps.now) parents.now) c × IsResolutionBy positive c) answer) }
+    ensures { IfOk result (λ answer. IsLeastCandidate (λ c. Works target.now (map (clause_at clauses.now) parents.now) c × IsResolutionBy positive c) answer) }
 {
     for negative in 0..parents.len() {
         let found = least_pair(
             alloc,
             target,
-            clause_of_step(steps, parents[positive]),
-            clause_of_step(steps, parents[negative]),
+            clause_in(clauses, parents[positive]),
+            clause_in(clauses, parents[negative]),
         )?;
         if let Some(pair) = found {
             let first = number(positive)?;
@@ -76,14 +76,14 @@ fn least_resolution_by(
 fn least_resolution(
     alloc: Global,
     target: &[Literal],
-    steps: &[Step],
+    clauses: &[Seq<Literal>],
     parents: &[u32],
 ) -> Result<Option<Candidate>, NoMemory>
-    requires { All (λ parent. parent < length steps.now) parents.now }
-    ensures { IfOk result (λ answer. IsLeastCandidate (λ c. Works target.now (map (clause_at steps.now) parents.now) c × IsResolution c) answer) }
+    requires { All (λ parent. parent < length clauses.now) parents.now }
+    ensures { IfOk result (λ answer. IsLeastCandidate (λ c. Works target.now (map (clause_at clauses.now) parents.now) c × IsResolution c) answer) }
 {
     for positive in 0..parents.len() {
-        let found = least_resolution_by(alloc, target, steps, parents, positive)?;
+        let found = least_resolution_by(alloc, target, clauses, parents, positive)?;
         if let Some(candidate) = found {
             return Ok(Some(candidate));
         }
@@ -95,16 +95,16 @@ fn least_resolution(
 pub fn least_justification(
     alloc: Global,
     target: &[Literal],
-    steps: &[Step],
+    clauses: &[Seq<Literal>],
     parents: &[u32],
 ) -> Result<Option<Candidate>, NoMemory>
-    requires { All (λ parent. parent < length steps.now) parents.now }
-    ensures { IfOk result (λ answer. IsLeastCandidate (Works target.now (map (clause_at steps.now) parents.now)) answer) }
+    requires { All (λ parent. parent < length clauses.now) parents.now }
+    ensures { IfOk result (λ answer. IsLeastCandidate (Works target.now (map (clause_at clauses.now) parents.now)) answer) }
 {
-    let found = least_subsumption(alloc, target, steps, parents)?;
+    let found = least_subsumption(alloc, target, clauses, parents)?;
     if let Some(candidate) = found {
         return Ok(Some(candidate));
     }
-    let other = least_resolution(alloc, target, steps, parents)?;
+    let other = least_resolution(alloc, target, clauses, parents)?;
     Ok(other)
 }

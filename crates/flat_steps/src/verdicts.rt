@@ -7,9 +7,9 @@ use dk_syntax::Name;
 pub enum Reason {
     /// The problem has no item of the name that the leaf gives.
     UnknownLeaf,
-    /// The problem's item of that name has another clause.
+    /// The problem's item of that name has another formula.
     AlteredLeaf,
-    /// The clause has an atom that no parent's clause has. It is the first such atom.
+    /// The formula has a symbol that no parent's formula has. It is the first such one.
     AlienSymbol(Name),
     /// The clause does not follow from the parents' clauses by one step.
     Unjustified,
@@ -20,7 +20,7 @@ pub enum Reason {
 pub enum Verdict {
     /// It is the problem's hypothesis at this place.
     Leaf(u32),
-    /// It has one parent, the step at this place, and the same clause.
+    /// It has one parent, the step at this place, and the same formula.
     Structural(u32),
     /// It follows from its parents by this justification, the least.
     Clausal(Candidate),

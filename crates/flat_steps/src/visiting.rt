@@ -1,6 +1,7 @@
 //! The visit of the steps that the root needs.
 ghost use Rattle.std.specs.Prelude.{◌≡◌, ◌<◌, ◌↔◌, ◌∷◌, ◌++◌, [], length, reverse, Contains, IsTrue, IfOk, OnOk};
-ghost use Rattle.flat_steps.specs.Plan.{needs, HasEarlierNeeds, Visits};
+ghost use Rattle.flat_steps.specs.Plan.{needs, Visits};
+ghost use Rattle.flat_steps.specs.Ranks.{rank_in, HasEarlierNeeds};
 ghost use Rattle.flat_steps.specs.Tasks.{visits_of, BeginsVisit, DoesTask, AreTasksBelow};
 
 use crate::plan::Base;
@@ -87,10 +88,16 @@ fn do_task(
     }
 }
 
-/// The list after a visit of the root.
-pub fn visited(alloc: Global, bases: &[Base], root: u32) -> Result<Vec<u32>, NoMemory>
+/// The list after a visit of the root. Of the order only the proof that the visit ends makes use: what a
+/// base names stands before it there.
+pub fn visited(
+    alloc: Global,
+    bases: &[Base],
+    order: &[u32],
+    root: u32,
+) -> Result<Vec<u32>, NoMemory>
     requires stands { root < length bases.now }
-    requires earlier { HasEarlierNeeds bases.now }
+    requires earlier { HasEarlierNeeds (rank_in order.now) bases.now }
     ensures { IfOk result (λ list. Visits bases.now [] (root ∷ []) list.items) }
 {
     let mut list = Vec::new(alloc);

@@ -1,15 +1,19 @@
 -- The view of the body is the theory's body.
 use Rattle.std.proofs.Common.{◌≡◌, ◌+◌, ◌-◌, ◌<◌, ◌≤◌, ℕ, zero, suc, List, [], ◌∷◌, ◌++◌, map, length, refl, sym, ap, ap₂, ◌∙◌, subst, append_assoc, append-nil, arith}
-use Rattle.flat_text.specs.declared.Hypothesis.{Hypothesis}
+use Rattle.dk_syntax.specs.Problems.{HasItsSymbols}
+use Rattle.dk_syntax.specs.declared.Named.{Named}
+use Rattle.dk_syntax.specs.declared.Problem.{Problem}
+use Rattle.flat_form.specs.Flat.{IsFlatProblem}
 use Rattle.flat_steps.specs.declared.Instance.{Instance}
 use Rattle.flat_development.specs.Terms.{abstractions, falsity as program_falsity, let_in}
 use Rattle.flat_development.specs.Clauses.{clause_type, hypothesis_type, hypothesis_types}
-use Rattle.flat_development.specs.Development.{with_hypotheses, body_of, by_contradiction, conclusion, excluded_middle, constants_of, goal_type}
+use Rattle.flat_development.specs.Development.{body_of, by_contradiction, conclusion, excluded_middle}
 use Rattle.flat_development.specs.Instances.{instance_level, instance_term, lets}
 use Rattle.lp_term.specs.LambdaPi.{Term, app, lam, shift, type, var}
 use Rattle.lp_term.specs.Names.{em_name}
 use Rattle.lp_term.specs.Connectives.{bot, neg, proof_of}
 use Rattle.lp_term.specs.Prelude.{prelude}
+use Rattle.lp_term.specs.Problems.{constants_of, goal_type_of}
 use Rattle.lp_term.specs.ProofTerms.{contradiction, let_term}
 use Rattle.lp_term.specs.Signature.{declarations}
 use Rattle.lp_term.specs.Terms as program
@@ -31,11 +35,12 @@ use Rattle.assemble.specs.Places.{first_place, last_of}
 use Rattle.assemble.proofs.BodyTypes.{body_typed, goal_prop}
 use Rattle.assemble.proofs.ProblemLaws.{signature_extends}
 use Rattle.assemble.proofs.LevelLaws.{lets_levels, place_at_first}
-use Rattle.flat_typing.specs.Joined.{IsSame}
+use Rattle.flat_typing.specs.Joined.{AreRight, IsSame}
 use Rattle.flat_typing.specs.Levels.{variables}
-use Rattle.flat_typing.specs.Translation.{atom_symbol, hypothesis_formula, problem_signature}
-use Rattle.flat_typing.proofs.ClauseViews.{view_hypothesis_type, view_clause_type, view_falsity, view_goal_type, view_not, view_proof}
+use Rattle.flat_typing.specs.Views.{problem_signature, theory_formulas, theory_symbol}
+use Rattle.flat_typing.proofs.ClauseViews.{view_clause_type, view_falsity, view_flat, view_goal_type, view_hypothesis_type, view_not, view_proof}
 use Rattle.flat_typing.proofs.ConsumerViews.{variables_shift}
+use Rattle.flat_typing.proofs.FlatHypotheses.{AreFlat, flat_hypotheses, flat_sentences}
 use Rattle.flat_typing.proofs.SignatureViews.{view_signature}
 use Rattle.flat_typing.proofs.SymbolLaws.{hypotheses_over}
 use Rattle.flat_typing.proofs.LetViews.{levels, levels_after, variables_by_levels, view_instance}
@@ -68,7 +73,7 @@ length_snoc : {A : Type 0} (front : List A) (a : A) → length (front ++ a ∷ [
 length_snoc [] a = omega arith
 length_snoc (b ∷ front) a = let e = length_snoc front a in omega (arith, e)
 
-module _ (hypotheses : List Hypothesis) {sig : List Declaration} (all : List Instance) (list : List TheoryInstance) (right : Right sig [] (map hypothesis_formula hypotheses) falsity list) where
+module _ (hypotheses : List Named) (flat : AreFlat hypotheses) {sig : List Declaration} (all : List Instance) (list : List TheoryInstance) (right : Right sig [] (theory_formulas hypotheses) falsity list) where
   at_end_of_lets : (front : List Instance) (others : List TheoryInstance) (place : ℕ) → list ≡ others → Each (IsSame hypotheses) front others → place ≡ length front
       → term_of conclusion ≡ lets_at (instance_level hypotheses place) (levels_after (length hypotheses) place) [] falsity
   at_end_of_lets front others place e same here =
@@ -99,7 +104,7 @@ module _ (hypotheses : List Hypothesis) {sig : List Declaration} (all : List Ins
       (view_lets (front ++ i ∷ []) back (others ++ o ∷ []) rest (place + 1) (whole ∙ sym (append_assoc front (i ∷ []) back)) (total ∙ sym (append_assoc others (o ∷ []) rest)) (each_snoc same s) h (omega (arith, size, here))
       ∙ ap (λ n. lets_at (instance_level hypotheses n) (levels_after (length hypotheses) n) rest falsity) e
       ∙ ap (λ n. lets_at n (levels_after (length hypotheses) (suc place)) rest falsity) next))
-      (view_instance hypotheses place all (i ∷ back) whole here same i o s (right.works others rest o total))
+      (view_instance hypotheses place flat all (i ∷ back) whole here same i o s (right.works others rest o total))
 
 -- ---- the place of the first let
 
@@ -136,12 +141,12 @@ view_contradiction u =
 
 -- ---- the body
 
-module _ (hypotheses : List Hypothesis) {sig : List Declaration} (all : List Instance) (list : List TheoryInstance) (same : Each (IsSame hypotheses) all list) (right : Right sig [] (map hypothesis_formula hypotheses) falsity list) where
+module _ (hypotheses : List Named) (flat : AreFlat hypotheses) {sig : List Declaration} (all : List Instance) (list : List TheoryInstance) (same : Each (IsSame hypotheses) all list) (right : Right sig [] (theory_formulas hypotheses) falsity list) where
   first_lets : term_of (lets hypotheses all 0 all conclusion) ≡ theory_lets (first_place (variables (length hypotheses) 0 (length hypotheses))) list falsity
   first_lets =
       let count = length hypotheses in
       let e : instance_level hypotheses 0 ≡ suc count = omega arith in
-      view_lets hypotheses all list right [] all [] list 0 refl refl each_nil same refl
+      view_lets hypotheses flat all list right [] all [] list 0 refl refl each_nil same refl
       ∙ ap (λ n. lets_at n (levels_after count 0) list falsity) e
       ∙ sym (lets_levels list falsity (all_inside count))
       ∙ sym (ap (λ v. theory_lets v list falsity) (place_at_first (levels_below count count (omega arith))))
@@ -153,19 +158,19 @@ module _ (hypotheses : List Hypothesis) {sig : List Declaration} (all : List Ins
       let z : 0 ≡ suc count - suc (0 + count) = omega arith in
       ap₂ (λ l t. l ++ t ∷ []) (variables_shift count 0 count (omega arith) ∙ ap (λ n. variables n 0 count) e) (ap var z)
 
-  view_under : (back : List Hypothesis) (count : ℕ) → count + length back ≡ length hypotheses
-      → term_of (abstractions (hypothesis_types back) (by_contradiction (lets hypotheses all 0 all conclusion))) ≡ body_under (map hypothesis_formula back) (variables count 0 count) [] falsity list
-  view_under [] count e =
+  view_under : (back : List Named) (count : ℕ) → AreFlat back → count + length back ≡ length hypotheses
+      → term_of (abstractions (hypothesis_types back) (by_contradiction (lets hypotheses all 0 all conclusion))) ≡ body_under (theory_formulas back) (variables count 0 count) [] falsity list
+  view_under [] count every_nil e =
       let n : length hypotheses ≡ count = omega (arith, e) in
       view_contradiction (lets hypotheses all 0 all conclusion)
       ∙ ap (contradiction bot) (first_lets ∙ ap (λ n. theory_lets (first_place (variables n 0 n)) list falsity) n)
-  view_under (h ∷ back) count e =
+  view_under (h ∷ back) count (every_cons i is) e =
       view_Lam (hypothesis_type h) (abstractions (hypothesis_types back) (by_contradiction (lets hypotheses all 0 all conclusion)))
-      ∙ ap₂ lam (view_hypothesis_type h)
-      (view_under back (suc count) (omega (arith, e)) ∙ ap (λ l. body_under (map hypothesis_formula back) l [] falsity list) (sym (one_hypothesis count)))
+      ∙ ap₂ lam (view_hypothesis_type h (view_flat i))
+      (view_under back (suc count) is (omega (arith, e)) ∙ ap (λ l. body_under (theory_formulas back) l [] falsity list) (sym (one_hypothesis count)))
 
-  pub view_body : term_of (body_of hypotheses all) ≡ goal_body (map hypothesis_formula hypotheses) [] falsity list
-  view_body = let e : 0 + length hypotheses ≡ length hypotheses = omega arith in view_under hypotheses 0 e
+  pub view_body : term_of (body_of hypotheses all) ≡ goal_body (theory_formulas hypotheses) [] falsity list
+  view_body = let e : 0 + length hypotheses ≡ length hypotheses = omega arith in view_under hypotheses 0 flat e
 
 -- ---- its type
 
@@ -181,21 +186,27 @@ none_in_turn sig =
       bodies = every_nil;
     }
 
-pub view_typed : (hypotheses : List Hypothesis) (all : List Instance) (list : List TheoryInstance)
-    → Each (IsSame hypotheses) all list → Right (problem_signature hypotheses) [] (map hypothesis_formula hypotheses) falsity list
-    → HasType (declarations (prelude ++ constants_of hypotheses)) [] (term_of (body_of hypotheses all)) (term_of (goal_type hypotheses))
-view_typed hypotheses all list same right =
-    let sig = problem_signature hypotheses in
-    let typed = body_typed sig (signature_extends (map atom_symbol (with_hypotheses [] hypotheses))) [] (map hypothesis_formula hypotheses) falsity (hypotheses_over hypotheses) over_falsity (none_in_turn sig) right in
-    subst (λ s. HasType s [] (term_of (body_of hypotheses all)) (term_of (goal_type hypotheses))) (sym (view_signature hypotheses))
-    (subst (λ t. HasType sig [] t (term_of (goal_type hypotheses))) (sym (view_body hypotheses all list same right))
-    (subst (λ a. HasType sig [] (goal_body (map hypothesis_formula hypotheses) [] falsity list) a) (sym (view_goal_type hypotheses)) typed))
+pub view_goal : (problem : Problem) → IsFlatProblem problem → term_of (goal_type_of problem) ≡ theory_goal_type (theory_formulas problem.hyps) falsity
+view_goal problem flat = view_goal_type problem flat.unconjectured (flat_sentences problem.hyps (flat_hypotheses problem flat))
+
+pub view_typed : (problem : Problem) (all : List Instance) (list : List TheoryInstance) → IsFlatProblem problem → HasItsSymbols problem → AreRight problem all list
+    → HasType (declarations (prelude ++ constants_of problem.symbols)) [] (term_of (body_of problem.hyps all)) (term_of (goal_type_of problem))
+view_typed problem all list flat has right =
+    let hypotheses = problem.hyps in
+    let sig = problem_signature problem.symbols in
+    let forms = flat_hypotheses problem flat in
+    let typed = body_typed sig (signature_extends (map theory_symbol problem.symbols)) [] (theory_formulas hypotheses) falsity (hypotheses_over problem forms has) over_falsity (none_in_turn sig) right.1 in
+    subst (λ s. HasType s [] (term_of (body_of hypotheses all)) (term_of (goal_type_of problem))) (sym (view_signature problem.symbols))
+    (subst (λ t. HasType sig [] t (term_of (goal_type_of problem))) (sym (view_body hypotheses forms all list right.0 right.1))
+    (subst (λ a. HasType sig [] (goal_body (theory_formulas hypotheses) [] falsity list) a) (sym (view_goal problem flat)) typed))
 
 -- the declared type of goal is a type in that signature
-pub view_goal_sorted : (hypotheses : List Hypothesis) → HasType (declarations (prelude ++ constants_of hypotheses)) [] (term_of (goal_type hypotheses)) type
-view_goal_sorted hypotheses =
-    let sig = problem_signature hypotheses in
-    let sorted : HasType sig [] (theory_goal_type (map hypothesis_formula hypotheses) falsity) type =
-    goal_prop sig (signature_extends (map atom_symbol (with_hypotheses [] hypotheses))) (hypotheses_over hypotheses) over_falsity in
-    subst (λ s. HasType s [] (term_of (goal_type hypotheses)) type) (sym (view_signature hypotheses))
-    (subst (λ a. HasType sig [] a type) (sym (view_goal_type hypotheses)) sorted)
+pub view_goal_sorted : (problem : Problem) → IsFlatProblem problem → HasItsSymbols problem
+    → HasType (declarations (prelude ++ constants_of problem.symbols)) [] (term_of (goal_type_of problem)) type
+view_goal_sorted problem flat has =
+    let hypotheses = problem.hyps in
+    let sig = problem_signature problem.symbols in
+    let sorted : HasType sig [] (theory_goal_type (theory_formulas hypotheses) falsity) type =
+    goal_prop sig (signature_extends (map theory_symbol problem.symbols)) (hypotheses_over problem (flat_hypotheses problem flat) has) over_falsity in
+    subst (λ s. HasType s [] (term_of (goal_type_of problem)) type) (sym (view_signature problem.symbols))
+    (subst (λ a. HasType sig [] a type) (sym (view_goal problem flat)) sorted)

@@ -1,26 +1,34 @@
--- The view of a clause's consumer is the consumer of its formula.
-use Rattle.std.proofs.Common.{◌≡◌, ◌+◌, ◌-◌, ◌≤◌, ℕ, zero, suc, Bool, true, false, if◌then◌else◌, List, [], ◌∷◌, ◌++◌, map, length, reverse, refl, sym, ap, ap₂, ◌∙◌, append_assoc, append-nil, ◌<◌, arith}
-use Rattle.std.proofs.lemmas.List.{length-reverse, reverse-append, reverse-reverse}
-use Rattle.flat_text.specs.declared.Literal.{Literal}
+-- The view of a flat formula's consumer is the theory's consumer.
+use Rattle.std.proofs.Common.{◌≡◌, ◌+◌, ◌-◌, ◌≤◌, ℕ, zero, suc, Bool, true, false, List, [], ◌∷◌, ◌++◌, map, length, length-append, refl, sym, ap, ap₂, ◌∙◌, append_assoc, append-nil, arith, rules}
+use Rattle.dk_syntax.specs.declared.Formula.{Formula, the_lemmas as of_formulas}
+use Rattle.dk_syntax.specs.declared.Formula.TheVariants.{False, Atom, Not, Or}
+use Rattle.dk_syntax.specs.declared.SymKey.{SymKey}
+use Rattle.dk_syntax.specs.declared.Term.{Term as ProgramTerm}
+use Rattle.flat_form.specs.Literals.{signed_literals}
+use Rattle.flat_form.proofs.ClauseLaws.{literals-Atom, literals-False, literals-Not, literals-Or}
 use Rattle.flat_development.specs.Terms.{falsity as program_falsity, variable}
-use Rattle.flat_development.specs.Clauses.{atom_identifier, clause_term, literal_term}
-use Rattle.flat_development.specs.Consumer.{by_cases, consume, consume_literal, consume_reversed}
+use Rattle.flat_development.specs.Clauses.{atom_identifier, atom_symbol}
+use Rattle.flat_development.specs.Consumer.{by_cases, consume, consume_literal}
+use Rattle.flat_development.proofs.Consumed.{consume-Or, consumer-Atom, consumer-False, consumer-Not}
 use Rattle.lp_term.specs.LambdaPi.{Term, app, lam, shift, var}
 use Rattle.lp_term.specs.Connectives.{bot, proof_of}
 use Rattle.lp_term.specs.Terms as program
+use Rattle.lp_term.specs.Translation.{translated}
 use Rattle.lp_term.specs.View.{term_of}
 use Rattle.lp_term.specs.declared.Lp.{Lp}
 use Rattle.lp_term.specs.declared.Lp.TheVariants.{Var, App, Lam}
 use Rattle.lp_term.proofs.ViewLaws.{view_App, view_Lam, view_Var}
-use Rattle.nd_term.specs.Formulas.{Formula, atomic, disjunction, falsity, symbol, unassigned}
-use Rattle.nd_term.specs.ThinTrees.{ThinTree, both, no_literal}
+use Rattle.nd_term.specs.Formulas.{atomic, symbol, unassigned}
+use Rattle.nd_term.specs.ThinTrees.{below_not, both, leaf, no_literal}
 use Rattle.nd_term.specs.Consumers.{consumer, lift, remaining}
-use Rattle.nd_term.specs.Translation.{sentence}
 use Rattle.assemble.specs.Levels.{at_level}
 use Rattle.assemble.proofs.LevelLaws.{at_deeper}
-use Rattle.flat_typing.specs.Translation.{clause_formula, clause_tree, literal_formula, signed_formula, signed_tree, with_literal_formulas, with_trees}
+use Rattle.flat_typing.specs.Flat.{clause_tree}
 use Rattle.flat_typing.specs.Levels.{variables}
-use Rattle.flat_typing.proofs.ClauseViews.{view_clause, view_falsity, view_literal, view_proof}
+use Rattle.flat_typing.specs.Views.{theory_formula}
+use Rattle.flat_typing.proofs.ClauseViews.{view_falsity, view_flat, view_proof}
+use Rattle.flat_typing.proofs.FlatTrees.{FlatTree, flat_atom, flat_false, flat_not, flat_or}
+use Rattle.flat_typing.proofs.FormulaViews.{theory-Atom, theory-False, theory-Not, theory-Or}
 
 -- ---- variables
 
@@ -44,41 +52,61 @@ variables_shift level first (suc count) h =
     map_append shift (variables level first count) (at_level level (first + count) ∷ [])
     ∙ ap₂ (λ l t. l ++ t ∷ []) (variables_shift level first count (omega (arith, h))) (at_next level (first + count) (omega (arith, h)))
 
--- ---- clauses from the last literal to the first
+-- the variables of two clauses, one after the other
+variables_more : (level first m n : ℕ) → variables level first (m + n) ≡ variables level first m ++ variables level (first + m) n
+variables_more level first m zero =
+    let e : m + zero ≡ m = omega arith in ap (variables level first) e ∙ sym (append-nil (variables level first m))
+variables_more level first m (suc n) =
+    let e : m + suc n ≡ suc (m + n) = omega arith in
+    let at : first + (m + n) ≡ first + m + n = omega arith in
+    ap (variables level first) e
+    ∙ ap₂ (λ l k. l ++ at_level level k ∷ []) (variables_more level first m n) at
+    ∙ append_assoc (variables level first m) (variables level (first + m) n) (at_level level (first + m + n) ∷ [])
 
-abbrev reversed_formula : List Literal → Formula
-reversed_formula [] = falsity
-reversed_formula (l ∷ []) = literal_formula l
-reversed_formula (l ∷ k ∷ rest) = disjunction (reversed_formula (k ∷ rest)) (literal_formula l)
+-- ---- the definitions at each kind of formula
 
-abbrev reversed_tree : List Literal → ThinTree
-reversed_tree [] = no_literal
-reversed_tree (l ∷ []) = signed_tree l.positive
-reversed_tree (l ∷ k ∷ rest) = both (reversed_tree (k ∷ rest)) (signed_tree l.positive)
+pub tree-False : clause_tree False ≡ no_literal
+tree-False = search (rules, of_formulas)
 
-remaining_signed : (b : Bool) (t : Term) (extra : List Term) → remaining (signed_tree b) (t ∷ extra) ≡ extra
-remaining_signed true t extra = refl
-remaining_signed false t extra = refl
+pub tree-Atom : (head : SymKey) (args : List ProgramTerm) → clause_tree (Atom head args) ≡ leaf
+tree-Atom head args = search (rules, of_formulas)
 
-remaining_reversed : (reversed : List Literal) (level first : ℕ) (extra : List Term) → remaining (reversed_tree reversed) (variables level first (length reversed) ++ extra) ≡ extra
-remaining_reversed [] level first extra = refl
-remaining_reversed (l ∷ []) level first extra = remaining_signed l.positive (at_level level (first + 0)) extra
-remaining_reversed (l ∷ k ∷ rest) level first extra =
-    let t = at_level level (first + length (k ∷ rest)) in
-    ap (λ lv. remaining (signed_tree l.positive) (remaining (reversed_tree (k ∷ rest)) lv)) (append_assoc (variables level first (length (k ∷ rest))) (t ∷ []) extra)
-    ∙ ap (remaining (signed_tree l.positive)) (remaining_reversed (k ∷ rest) level first (t ∷ extra))
-    ∙ remaining_signed l.positive t extra
+pub tree-Not : (a : Formula) → clause_tree (Not a) ≡ below_not (clause_tree a)
+tree-Not a = search (rules, of_formulas)
+
+pub tree-Or : (a b : Formula) → clause_tree (Or a b) ≡ both (clause_tree a) (clause_tree b)
+tree-Or a b = search (rules, of_formulas)
+
+count_or : (a b : Formula) → length (signed_literals (Or a b) true) ≡ length (signed_literals a true) + length (signed_literals b true)
+count_or a b = ap length (literals-Or a b true) ∙ length-append (signed_literals a true) (signed_literals b true)
+
+-- the variables of a disjunction's literals are those of its left side and then those of its right side
+variables_or : (a b : Formula) (level first : ℕ) (extra : List Term) → variables level first (length (signed_literals (Or a b) true)) ++ extra
+    ≡ variables level first (length (signed_literals a true)) ++ (variables level (first + length (signed_literals a true)) (length (signed_literals b true)) ++ extra)
+variables_or a b level first extra =
+    let m = length (signed_literals a true) in
+    let n = length (signed_literals b true) in
+    ap (λ k. variables level first k ++ extra) (count_or a b)
+    ∙ ap (λ l. l ++ extra) (variables_more level first m n)
+    ∙ append_assoc (variables level first m) (variables level (first + m) n) extra
+
+-- ---- what is left of the variables after those of a formula
+
+remaining_flat : {b : Bool} {f : Formula} → FlatTree b f → (level first : ℕ) (extra : List Term)
+    → remaining (clause_tree f) (variables level first (length (signed_literals f b)) ++ extra) ≡ extra
+remaining_flat flat_false level first extra =
+    ap₂ (λ tree n. remaining tree (variables level first n ++ extra)) tree-False (ap length (literals-False true))
+remaining_flat (flat_atom sign atom) level first extra =
+    ap₂ (λ tree n. remaining tree (variables level first n ++ extra)) (tree-Atom (atom_symbol atom) []) (ap length (literals-Atom (atom_symbol atom) [] sign))
+remaining_flat (flat_not {a = a} h) level first extra =
+    ap₂ (λ tree n. remaining tree (variables level first n ++ extra)) (tree-Not a) (ap length (literals-Not a true))
+    ∙ remaining_flat h level first extra
+remaining_flat (flat_or {a = a} {b = b} h k) level first extra =
+    ap₂ remaining (tree-Or a b) (variables_or a b level first extra)
+    ∙ ap (remaining (clause_tree b)) (remaining_flat h level first (variables level (first + length (signed_literals a true)) (length (signed_literals b true)) ++ extra))
+    ∙ remaining_flat k level (first + length (signed_literals a true)) extra
 
 -- ---- the consumer
-
-signed_consumed : (b : Bool) (name : List ℕ) (x w : ℕ → Term) (n t : Lp) (v : Term) (extra : List Term) → term_of n ≡ v
-    → term_of (if b then App n t else App t n) ≡ consumer (signed_formula b (atomic (symbol name))) true (signed_tree b) unassigned x w (v ∷ extra) (term_of t)
-signed_consumed true name x w n t v extra e = view_App n t ∙ ap (λ y. app y (term_of t)) e
-signed_consumed false name x w n t v extra e = view_App t n ∙ ap (app (term_of t)) e
-
-literal_consumed : (l : Literal) (x w : ℕ → Term) (n t : Lp) (v : Term) (extra : List Term) → term_of n ≡ v
-    → term_of (consume_literal l n t) ≡ consumer (literal_formula l) true (signed_tree l.positive) unassigned x w (v ∷ extra) (term_of t)
-literal_consumed l x w n t v extra e = signed_consumed l.positive (atom_identifier l.atom) x w n t v extra e
 
 view_cases : (t p u q v : Lp) → term_of (by_cases t p u q v) ≡ app (app (app (term_of t) bot) (lam (proof_of (term_of p)) (term_of u))) (lam (proof_of (term_of q)) (term_of v))
 view_cases t p u q v =
@@ -88,81 +116,81 @@ view_cases t p u q v =
     ∙ ap₂ app (view_App t program_falsity ∙ ap (app (term_of t)) view_falsity) (view_Lam (program.proof_of p) u ∙ ap (λ a. lam a (term_of u)) (view_proof p)))
     (view_Lam (program.proof_of q) v ∙ ap (λ a. lam a (term_of v)) (view_proof q))
 
--- ---- a clause with one more literal at its end
+literal_consumed : (b : Bool) (name : List ℕ) (x w : ℕ → Term) (n t : Lp) (v : Term) (extra : List Term) → term_of n ≡ v
+    → term_of (consume_literal b n t) ≡ consumer (atomic (symbol name)) b leaf unassigned x w (v ∷ extra) (term_of t)
+literal_consumed true name x w n t v extra e = view_App n t ∙ ap (λ y. app y (term_of t)) e
+literal_consumed false name x w n t v extra e = view_App t n ∙ ap (app (term_of t)) e
 
-formulas_more : (f : Formula) (earlier : List Literal) (l : Literal) → with_literal_formulas f (earlier ++ l ∷ []) ≡ disjunction (with_literal_formulas f earlier) (literal_formula l)
-formulas_more f [] l = refl
-formulas_more f (k ∷ earlier) l = formulas_more (disjunction f (literal_formula k)) earlier l
+-- the consumer is the theory's, where the variables of other literals may follow
+abbrev Consumed : Bool → Formula → Type 0
+Consumed b f = (x w : ℕ → Term) (first level : ℕ) (extra : List Term) (t : Lp) → first + length (signed_literals f b) ≤ level
+    → term_of (consume f b first level t)
+    ≡ consumer (theory_formula f) b (clause_tree f) unassigned x w (variables level first (length (signed_literals f b)) ++ extra) (term_of t)
 
-trees_more : (tree : ThinTree) (earlier : List Literal) (l : Literal) → with_trees tree (earlier ++ l ∷ []) ≡ both (with_trees tree earlier) (signed_tree l.positive)
-trees_more tree [] l = refl
-trees_more tree (k ∷ earlier) l = trees_more (both tree (signed_tree k.positive)) earlier l
+consumed_false : Consumed true False
+consumed_false x w first level extra t h =
+    ap (λ c. term_of (c.falsity_from true first level t)) consumer-False
+    ∙ sym (ap₂ (λ f tree. consumer f true tree unassigned x w (variables level first (length (signed_literals False true)) ++ extra) (term_of t)) theory-False tree-False)
 
-formula_more : (earlier : List Literal) (l : Literal) → 0 < length earlier → clause_formula (earlier ++ l ∷ []) ≡ disjunction (clause_formula earlier) (literal_formula l)
-formula_more [] l h = absurd (omega arith)
-formula_more (k ∷ earlier) l h = formulas_more (literal_formula k) earlier l
-
-tree_more : (earlier : List Literal) (l : Literal) → 0 < length earlier → clause_tree (earlier ++ l ∷ []) ≡ both (clause_tree earlier) (signed_tree l.positive)
-tree_more [] l h = absurd (omega arith)
-tree_more (k ∷ earlier) l h = trees_more (signed_tree k.positive) earlier l
-
-some_reversed : (k : Literal) (rest : List Literal) → 0 < length (reverse (k ∷ rest))
-some_reversed k rest = let e = length-reverse (k ∷ rest) in omega (arith, e)
-
-view_reversed : (reversed : List Literal) → clause_formula (reverse reversed) ≡ reversed_formula reversed
-view_reversed [] = refl
-view_reversed (l ∷ []) = refl
-view_reversed (l ∷ k ∷ rest) =
-    ap clause_formula (reverse-append (l ∷ []) (k ∷ rest))
-    ∙ formula_more (reverse (k ∷ rest)) l (some_reversed k rest)
-    ∙ ap (λ f. disjunction f (literal_formula l)) (view_reversed (k ∷ rest))
-
-tree_reversed : (reversed : List Literal) → clause_tree (reverse reversed) ≡ reversed_tree reversed
-tree_reversed [] = refl
-tree_reversed (l ∷ []) = refl
-tree_reversed (l ∷ k ∷ rest) =
-    ap clause_tree (reverse-append (l ∷ []) (k ∷ rest))
-    ∙ tree_more (reverse (k ∷ rest)) l (some_reversed k rest)
-    ∙ ap (λ tree. both tree (signed_tree l.positive)) (tree_reversed (k ∷ rest))
-
-pub consumed : (reversed : List Literal) (x w : ℕ → Term) (first level : ℕ) (extra : List Term) (t : Lp) → first + length reversed ≤ level
-    → term_of (consume_reversed first level reversed t) ≡ consumer (reversed_formula reversed) true (reversed_tree reversed) unassigned x w (variables level first (length reversed) ++ extra) (term_of t)
-consumed [] x w first level extra t h = refl
-consumed (l ∷ []) x w first level extra t h =
+consumed_atom : (b : Bool) (atom : List ℕ) → Consumed b (Atom (atom_symbol atom) [])
+consumed_atom b atom x w first level extra t h =
+    let head = atom_symbol atom in
     let e : first ≡ first + 0 = omega arith in
-    literal_consumed l x w (variable level first) t (at_level level (first + 0)) extra (view_variable level first ∙ ap (at_level level) e)
-consumed (l ∷ k ∷ rest) x w first level extra t h =
-    let earlier = k ∷ rest in
-    let m = length earlier in
-    let v = at_level level (first + m) in
-    let f = reversed_formula earlier in
-    let tree = reversed_tree earlier in
-    let room : first + m ≤ level = omega (arith, h) in
-    let further : first + m ≤ level + 1 = omega (arith, h) in
-    let others : map shift (variables level first m ++ (v ∷ extra)) ≡ variables (level + 1) first m ++ map shift (v ∷ extra) =
-    map_append shift (variables level first m) (v ∷ extra) ∙ ap (λ l. l ++ map shift (v ∷ extra)) (variables_shift level first m room) in
-    let left_type : term_of (clause_term (reverse earlier)) ≡ sentence f = view_clause (reverse earlier) ∙ ap sentence (view_reversed earlier) in
-    let left_proof : term_of (consume_reversed first (level + 1) earlier (Var 0)) ≡ consumer f true tree unassigned (lift x) (lift w) (map shift (variables level first m ++ (v ∷ extra))) (var 0) =
-    consumed (k ∷ rest) (lift x) (lift w) first (level + 1) (map shift (v ∷ extra)) (Var 0) further
-    ∙ ap₂ (λ lv u. consumer f true tree unassigned (lift x) (lift w) lv u) (sym others) (view_Var 0) in
-    let last : term_of (variable (level + 1) (first + m)) ≡ shift v = view_variable (level + 1) (first + m) ∙ sym (at_next level (first + m) (omega (arith, h))) in
-    let right_proof : term_of (consume_literal l (variable (level + 1) (first + m)) (Var 0)) ≡ consumer (literal_formula l) true (signed_tree l.positive) unassigned (lift x) (lift w) (map shift (remaining tree (variables level first m ++ (v ∷ extra)))) (var 0) =
-    literal_consumed l (lift x) (lift w) (variable (level + 1) (first + m)) (Var 0) (shift v) (map shift extra) last
-    ∙ ap₂ (λ lv u. consumer (literal_formula l) true (signed_tree l.positive) unassigned (lift x) (lift w) (map shift lv) u) (sym (remaining_reversed earlier level first (v ∷ extra))) (view_Var 0) in
-    view_cases t (clause_term (reverse earlier)) (consume_reversed first (level + 1) earlier (Var 0)) (literal_term l) (consume_literal l (variable (level + 1) (first + m)) (Var 0))
-    ∙ ap₂ (λ a b. app (app (app (term_of t) bot) a) b)
-    (ap₂ (λ p u. lam (proof_of p) u) left_type left_proof)
-    (ap₂ (λ q u. lam (proof_of q) u) (view_literal l) right_proof)
-    ∙ ap (λ lv. consumer (disjunction f (literal_formula l)) true (both tree (signed_tree l.positive)) unassigned x w lv (term_of t)) (sym (append_assoc (variables level first m) (v ∷ []) extra))
+    ap (λ c. term_of (c.falsity_from b first level t)) (consumer-Atom head [])
+    ∙ literal_consumed b (atom_identifier atom) x w (variable level first) t (at_level level (first + 0)) extra (view_variable level first ∙ ap (at_level level) e)
+    ∙ sym (ap₂ (λ f tree. consumer f b tree unassigned x w (at_level level (first + 0) ∷ extra) (term_of t)) (theory-Atom head []) (tree-Atom head []))
+    ∙ sym (ap (λ n. consumer (theory_formula (Atom head [])) b (clause_tree (Atom head [])) unassigned x w (variables level first n ++ extra) (term_of t)) (ap length (literals-Atom head [] b)))
 
-pub view_consume : (clause : List Literal) (x w : ℕ → Term) (first level : ℕ) (t : Lp) → first + length clause ≤ level
-    → term_of (consume first level clause t) ≡ consumer (clause_formula clause) true (clause_tree clause) unassigned x w (variables level first (length clause)) (term_of t)
-view_consume clause x w first level t h =
-    let long = length-reverse clause in
-    let formula : reversed_formula (reverse clause) ≡ clause_formula clause = sym (view_reversed (reverse clause)) ∙ ap clause_formula (reverse-reverse clause) in
-    let tree : reversed_tree (reverse clause) ≡ clause_tree clause = sym (tree_reversed (reverse clause)) ∙ ap clause_tree (reverse-reverse clause) in
-    let all : variables level first (length (reverse clause)) ++ [] ≡ variables level first (length clause) =
-    append-nil (variables level first (length (reverse clause))) ∙ ap (variables level first) long in
-    consumed (reverse clause) x w first level [] t (omega (arith, long, h))
-    ∙ ap₂ (λ f tree. consumer f true tree unassigned x w (variables level first (length (reverse clause)) ++ []) (term_of t)) formula tree
-    ∙ ap (λ lv. consumer (clause_formula clause) true (clause_tree clause) unassigned x w lv (term_of t)) all
+consumed_not : (a : Formula) → Consumed false a → Consumed true (Not a)
+consumed_not a k x w first level extra t h =
+    let same = ap length (literals-Not a true) in
+    ap (λ c. term_of (c.falsity_from true first level t)) (consumer-Not a)
+    ∙ k x w first level extra t (omega (arith, h, same))
+    ∙ sym (ap₂ (λ f tree. consumer f true tree unassigned x w (variables level first (length (signed_literals a false)) ++ extra) (term_of t)) (theory-Not a) (tree-Not a))
+    ∙ sym (ap (λ n. consumer (theory_formula (Not a)) true (clause_tree (Not a)) unassigned x w (variables level first n ++ extra) (term_of t)) same)
+
+consumed_or : (a b : Formula) → FlatTree true a → FlatTree true b → Consumed true a → Consumed true b → Consumed true (Or a b)
+consumed_or a b i j k l x w first level extra t h =
+    let m = length (signed_literals a true) in
+    let n = length (signed_literals b true) in
+    let count = count_or a b in
+    let next = first + m in
+    let others = variables level next n ++ extra in
+    let f = theory_formula a in
+    let g = theory_formula b in
+    let tree = clause_tree a in
+    let room : first + m ≤ level = omega (arith, h, count) in
+    let further : first + m ≤ level + 1 = omega (arith, room) in
+    let next_room : first + m + n ≤ level = omega (arith, h, count) in
+    let next_further : first + m + n ≤ level + 1 = omega (arith, next_room) in
+    let left_list : map shift (variables level first m ++ others) ≡ variables (level + 1) first m ++ map shift others =
+    map_append shift (variables level first m) others ∙ ap (λ vs. vs ++ map shift others) (variables_shift level first m room) in
+    let left_proof : term_of (consume a true first (level + 1) (Var 0)) ≡ consumer f true tree unassigned (lift x) (lift w) (map shift (variables level first m ++ others)) (var 0) =
+    k (lift x) (lift w) first (level + 1) (map shift others) (Var 0) further
+    ∙ ap₂ (λ lv u. consumer f true tree unassigned (lift x) (lift w) lv u) (sym left_list) (view_Var 0) in
+    let right_list : map shift (remaining tree (variables level first m ++ others)) ≡ variables (level + 1) next n ++ map shift extra =
+    ap (map shift) (remaining_flat i level first others) ∙ map_append shift (variables level next n) extra
+    ∙ ap (λ vs. vs ++ map shift extra) (variables_shift level next n next_room) in
+    let right_proof : term_of (consume b true next (level + 1) (Var 0)) ≡ consumer g true (clause_tree b) unassigned (lift x) (lift w) (map shift (remaining tree (variables level first m ++ others))) (var 0) =
+    l (lift x) (lift w) next (level + 1) (map shift extra) (Var 0) next_further
+    ∙ ap₂ (λ lv u. consumer g true (clause_tree b) unassigned (lift x) (lift w) lv u) (sym right_list) (view_Var 0) in
+    ap term_of (consume-Or a b true first level t)
+    ∙ view_cases t (translated a) (consume a true first (level + 1) (Var 0)) (translated b) (consume b true next (level + 1) (Var 0))
+    ∙ ap₂ (λ p q. app (app (app (term_of t) bot) p) q)
+    (ap₂ (λ p u. lam (proof_of p) u) (view_flat i) left_proof)
+    (ap₂ (λ q u. lam (proof_of q) u) (view_flat j) right_proof)
+    ∙ sym (ap₂ (λ c th. consumer c true th unassigned x w (variables level first m ++ others) (term_of t)) (theory-Or a b) (tree-Or a b))
+    ∙ sym (ap (λ lv. consumer (theory_formula (Or a b)) true (clause_tree (Or a b)) unassigned x w lv (term_of t)) (variables_or a b level first extra))
+
+consumed : {b : Bool} {f : Formula} → FlatTree b f → Consumed b f
+consumed flat_false = consumed_false
+consumed (flat_atom sign atom) = consumed_atom sign atom
+consumed (flat_not {a = a} h) = consumed_not a (consumed h)
+consumed (flat_or {a = a} {b = b} h k) = consumed_or a b h k (consumed h) (consumed k)
+
+pub view_consume : (f : Formula) → FlatTree true f → (x w : ℕ → Term) (first level : ℕ) (t : Lp) → first + length (signed_literals f true) ≤ level
+    → term_of (consume f true first level t)
+    ≡ consumer (theory_formula f) true (clause_tree f) unassigned x w (variables level first (length (signed_literals f true))) (term_of t)
+view_consume f tree x w first level t h =
+    consumed tree x w first level [] t h
+    ∙ ap (λ lv. consumer (theory_formula f) true (clause_tree f) unassigned x w lv (term_of t)) (append-nil (variables level first (length (signed_literals f true))))

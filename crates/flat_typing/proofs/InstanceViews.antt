@@ -3,7 +3,7 @@ use Rattle.std.proofs.Common.{◌≡◌, ◌+◌, ◌-◌, ◌<◌, ◌≤◌, �
 use Rattle.std.specs.List.{range_with_len}
 use Rattle.std.proofs.lemmas.Bool.Decides.{nat_tests}
 use Rattle.std.proofs.lemmas.List.FromFn.{map-range_with_len_more}
-use Rattle.flat_text.specs.declared.Literal.{Literal}
+use Rattle.flat_form.specs.declared.Literal.{Literal}
 use Rattle.flat_development.specs.Terms.{apply_all, variable}
 use Rattle.flat_development.specs.Clauses.{atom_identifier, atom_term}
 use Rattle.flat_development.specs.Instances.{chosen, chosen_or_pivot, pivot_term}
@@ -21,7 +21,7 @@ use Rattle.nd_term.specs.Translation.{translated_ground}
 use Rattle.nd_term.proofs.ListLaws.{entry_end, entry_same}
 use Rattle.assemble.specs.Levels.{at_level}
 use Rattle.flat_typing.specs.Levels.{variables}
-use Rattle.flat_typing.specs.Translation.{ground_literal}
+use Rattle.flat_typing.specs.Flat.{ground_literal}
 use Rattle.flat_typing.proofs.ClauseViews.{view_proof}
 use Rattle.flat_typing.proofs.ConsumerViews.{at_next, variables_shift, view_variable}
 

@@ -1,15 +1,15 @@
 -- The views of the instances' terms and of their lets.
 use Rattle.std.proofs.Common.{◌≡◌, ◌+◌, ◌<◌, ℕ, zero, suc, true, false, List, [], ◌∷◌, ◌++◌, map, length, slice_get, refl, sym, ap, ap₂, ◌∙◌, subst, arith}
 use Rattle.std.specs.List.{range_with_len}
-use Rattle.flat_text.specs.declared.Literal.{Literal}
-use Rattle.flat_text.specs.declared.Hypothesis.{Hypothesis}
+use Rattle.dk_syntax.specs.declared.Named.{Named}
+use Rattle.flat_form.specs.Literals.{literals_of}
+use Rattle.flat_form.specs.declared.Literal.{Literal}
 use Rattle.flat_steps.specs.declared.Base.{Base}
 use Rattle.flat_steps.specs.declared.Base.TheVariants as base
 use Rattle.flat_steps.specs.declared.Instance.{Instance}
 use Rattle.flat_development.specs.Terms.{abstractions, apply_all, variable}
 use Rattle.flat_development.specs.Clauses.{literal_type, literal_types}
-use Rattle.flat_development.specs.Consumer.{consume}
-use Rattle.flat_development.specs.Instances.{base_term, chosen, chosen_or_pivot, clause_of_hypothesis, clause_of_instance, instance_level, instance_term, instance_variable, pivot_term}
+use Rattle.flat_development.specs.Instances.{base_term, chosen, chosen_or_pivot, clause_of_instance, consume_hypothesis, instance_level, instance_term, instance_variable, pivot_term}
 use Rattle.lp_term.specs.LambdaPi.{Term, lam}
 use Rattle.lp_term.specs.View.{term_of}
 use Rattle.lp_term.specs.Typing.{Declaration}
@@ -24,9 +24,11 @@ use Rattle.assemble.specs.Justification.{Instance as TheoryInstance, Reason, Wor
 use Rattle.assemble.specs.Levels.{Levels, abstractions_at, at_level, place_at}
 use Rattle.flat_typing.specs.Joined.{IsReasonOf, IsSame}
 use Rattle.flat_typing.specs.Levels.{variables}
-use Rattle.flat_typing.specs.Translation.{clause_tree, ground_literal, hypothesis_formula}
+use Rattle.flat_typing.specs.Flat.{clause_tree, ground_literal}
+use Rattle.flat_typing.specs.Views.{theory_formula, theory_formulas}
 use Rattle.flat_typing.proofs.ClauseViews.{view_literal_type}
 use Rattle.flat_typing.proofs.ConsumerViews.{view_consume, view_variable}
+use Rattle.flat_typing.proofs.FlatHypotheses.{AreFlat, every_got}
 use Rattle.flat_typing.proofs.InstanceViews.{variables_at, view_all, view_apply_all, view_resolution, view_subsumption}
 use Rattle.std.proofs.lemmas.Option.{slice_get_within}
 
@@ -78,7 +80,7 @@ module _ {sig : List Declaration} {hs : List Formula} {known : List (List Ground
       → (m : List GroundLiteral) × (n : List GroundLiteral) × Entry known p m × Entry known q n × Chosen (d ++ literal true a ∷ []) m ks × Chosen (d ++ literal false a ∷ []) n ls
   resolve_parents (works_resolve {m = m} {n = n} k l np nq ip iq kp kq) = (m, n, np, nq, ip, iq)
 
-module _ (hypotheses : List Hypothesis) where
+module _ (hypotheses : List Named) where
   -- a known clause is that of an instance
   known_instance : {front : List Instance} {others : List TheoryInstance} {p : ℕ} {m : List GroundLiteral} (back : List Instance) → Each (IsSame hypotheses) front others → Entry (clauses others) p m
       → (m ≡ map ground_literal (clause_of_instance (slice_get (front ++ back) p))) × (p < length front)
@@ -92,7 +94,7 @@ length_ground (l ∷ rest) = ap (λ n. suc n) (length_ground rest)
 
 -- ---- a base
 
-module _ (hypotheses : List Hypothesis) (place : ℕ) where
+module _ (hypotheses : List Named) (place : ℕ) where
   abbrev start_of : ℕ
   start_of = instance_level hypotheses place
 
@@ -108,7 +110,7 @@ module _ (hypotheses : List Hypothesis) (place : ℕ) where
   view_parent : (level q : ℕ) → q < place → term_of (instance_variable hypotheses level q) ≡ at_place (place_at level (levels_after (length hypotheses) place)).done q
   view_parent level q lt = view_variable level (instance_level hypotheses q) ∙ sym (instance_at level q lt)
 
-  module _ {front : List Instance} {others : List TheoryInstance} (all back : List Instance) (whole : all ≡ front ++ back) (here : place ≡ length front) (same : Each (IsSame hypotheses) front others) where
+  module _ (flat : AreFlat hypotheses) {front : List Instance} {others : List TheoryInstance} (all back : List Instance) (whole : all ≡ front ++ back) (here : place ≡ length front) (same : Each (IsSame hypotheses) front others) where
     parent_before : {q : ℕ} {m : List GroundLiteral} → Entry (clauses others) q m → q < place
     parent_before n = let k = (known_instance hypotheses back same n).1 in omega (arith, k, here)
 
@@ -116,29 +118,30 @@ module _ (hypotheses : List Hypothesis) (place : ℕ) where
     parent_clause {q = q} n = (known_instance hypotheses back same n).0 ∙ ap (λ l. map ground_literal (clause_of_instance (slice_get l q))) (sym whole)
 
     view_base : {sig : List Declaration} (b : Base) (clause : List Literal) (reason : Reason) → IsReasonOf hypotheses clause b reason
-        → Works sig [] (map hypothesis_formula hypotheses) falsity (clauses others) (map ground_literal clause) reason
+        → Works sig [] (theory_formulas hypotheses) falsity (clauses others) (map ground_literal clause) reason
         → term_of (base_term hypotheses all start_of (length clause) b) ≡ inner start_of (levels_after (length hypotheses) place) reason (length clause)
     view_base {sig = sig} (base.Hypothesis h) clause reason (hypothesis, found, agrees, r) works =
         let level = start_of + length clause in
         let v = place_at level (levels_after (length hypotheses) place) in
-        let long : length hypothesis.clause ≡ length clause = ap length agrees in
-        ap (λ o. term_of (consume start_of level (clause_of_hypothesis o) (variable level h))) found
-        ∙ view_consume hypothesis.clause v.eigenvariables v.witnesses start_of level (variable level h) (omega (arith, long))
-        ∙ ap₂ (λ lv t. consumer (hypothesis_formula hypothesis) true (clause_tree hypothesis.clause) unassigned v.eigenvariables v.witnesses lv t)
+        let f = hypothesis.formula in
+        let long : length (literals_of f) ≡ length clause = ap length agrees in
+        ap (λ o. term_of (consume_hypothesis o start_of level (variable level h))) found
+        ∙ view_consume f (every_got hypotheses h hypothesis flat found) v.eigenvariables v.witnesses start_of level (variable level h) (omega (arith, long))
+        ∙ ap₂ (λ lv t. consumer (theory_formula f) true (clause_tree f) unassigned v.eigenvariables v.witnesses lv t)
         (ap (variables level start_of) long ∙ sym (variables_by_levels level start_of (length clause)))
         (view_variable level h ∙ sym (hypothesis_at level h (slice_get_within hypotheses h hypothesis found)))
         ∙ sym (ap (reason_proof v (map (at_level level) (levels start_of (length clause)))) r)
     view_base {sig = sig} (base.Structural parent) clause reason r works =
         let level = start_of + length clause in
         let v = place_at level (levels_after (length hypotheses) place) in
-        let n = same_parent (subst (λ y. Works sig [] (map hypothesis_formula hypotheses) falsity (clauses others) (map ground_literal clause) y) r works) in
+        let n = same_parent (subst (λ y. Works sig [] (theory_formulas hypotheses) falsity (clauses others) (map ground_literal clause) y) r works) in
         view_apply_all (instance_variable hypotheses level parent) (chosen start_of level (range_with_len 0 (length clause)))
         ∙ ap₂ applied_to (view_parent level parent (parent_before n)) (view_all level start_of (length clause) ∙ sym (variables_by_levels level start_of (length clause)))
         ∙ sym (ap (reason_proof v (map (at_level level) (levels start_of (length clause)))) r)
     view_base {sig = sig} (base.Subsume parent picks) clause reason r works =
         let level = start_of + length clause in
         let v = place_at level (levels_after (length hypotheses) place) in
-        let found = subsume_parent (subst (λ y. Works sig [] (map hypothesis_formula hypotheses) falsity (clauses others) (map ground_literal clause) y) r works) in
+        let found = subsume_parent (subst (λ y. Works sig [] (theory_formulas hypotheses) falsity (clauses others) (map ground_literal clause) y) r works) in
         view_subsumption level start_of (instance_variable hypotheses level parent) found.2
         ∙ ap₂ (λ t lv. subsumption_proof t lv picks)
         (view_parent level parent (parent_before found.1))
@@ -148,7 +151,7 @@ module _ (hypotheses : List Hypothesis) (place : ℕ) where
         let d = map ground_literal clause in
         let level = start_of + length clause in
         let v = place_at level (levels_after (length hypotheses) place) in
-        let found = resolve_parents (subst (λ y. Works sig [] (map hypothesis_formula hypotheses) falsity (clauses others) d y) r works) in
+        let found = resolve_parents (subst (λ y. Works sig [] (theory_formulas hypotheses) falsity (clauses others) d y) r works) in
         let parent = clause_of_instance (slice_get all positive) in
         let low = instance_level hypotheses negative in
         let before = parent_before found.3 in
@@ -161,11 +164,11 @@ module _ (hypotheses : List Hypothesis) (place : ℕ) where
         ∙ ap₂ (λ u lv. resolution_proof v.eigenvariables (at_place v.done positive) u lv picks more a) (sym (instance_at level negative before)) (sym (variables_by_levels level start_of (length clause)))
         ∙ sym (ap (reason_proof v (map (at_level level) (levels start_of (length clause)))) r)
 
-    pub view_instance : {sig : List Declaration} (i : Instance) (o : TheoryInstance) → IsSame hypotheses i o → Works sig [] (map hypothesis_formula hypotheses) falsity (clauses others) o.clause o.by
+    pub view_instance : {sig : List Declaration} (i : Instance) (o : TheoryInstance) → IsSame hypotheses i o → Works sig [] (theory_formulas hypotheses) falsity (clauses others) o.clause o.by
         → term_of (instance_term hypotheses all place i) ≡ abstractions_at o.clause start_of (levels_after (length hypotheses) place) [] o.by
     view_instance {sig = sig} i o s works =
         let p = levels_after (length hypotheses) place in
-        let ground = subst (λ d. Works sig [] (map hypothesis_formula hypotheses) falsity (clauses others) d o.by) s.clause works in
+        let ground = subst (λ d. Works sig [] (theory_formulas hypotheses) falsity (clauses others) d o.by) s.clause works in
         let none : length i.clause ≡ 0 + length i.clause = omega arith in
         let from : start_of + 0 ≡ start_of = omega arith in
         view_abstractions start_of p o.by i.clause 0 (base_term hypotheses all start_of (length i.clause) i.base)

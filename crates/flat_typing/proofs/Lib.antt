@@ -3,6 +3,9 @@ pub mod BaseClauses
 pub mod BodyViews
 pub mod ClauseViews
 pub mod ConsumerViews
+pub mod FlatHypotheses
+pub mod FlatTrees
+pub mod FormulaViews
 pub mod InstanceViews
 pub mod LetViews
 pub mod PickLaws

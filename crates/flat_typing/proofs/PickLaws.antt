@@ -1,18 +1,25 @@
 -- Picks of a candidate are the theory's choices, and a clause's tree passes through its formula.
-use Rattle.std.proofs.Common.{◌≡◌, ℕ, zero, suc, Bool, true, false, List, [], ◌∷◌, ◌++◌, map, Some, length, slice_get, Contains, sym, subst, inl, inr, append_assoc, append-nil, arith}
-use Rattle.std.proofs.lemmas.List.{length-map}
-use Rattle.flat_text.specs.declared.Literal.{Literal}
+use Rattle.std.proofs.Common.{◌≡◌, ℕ, zero, suc, Bool, true, List, [], ◌∷◌, ◌++◌, map, Some, length, slice_get, Contains, sym, ap, subst, inl, inr, ◌∙◌, arith}
+use Rattle.std.proofs.lemmas.List.{length-map, map-append}
+use Rattle.dk_syntax.specs.declared.Formula.{Formula}
+use Rattle.flat_form.specs.Literals.{signed_literals}
+use Rattle.flat_form.specs.declared.Literal.{Literal}
+use Rattle.flat_form.proofs.ClauseLaws.{literals-Atom, literals-False, literals-Not, literals-Or}
 use Rattle.flat_steps.specs.Candidates.{ArePicked, IsPicked, Subsumes}
-use Rattle.flat_steps.proofs.Cuttings.{contains_cons}
 use Rattle.lp_term.specs.Typing.{Declaration}
 use Rattle.nd_term.specs.Eigenvariables.{Eigenvariable}
-use Rattle.nd_term.specs.Formulas.{Formula, Literal as GroundLiteral, atomic, ground_symbol, literal, symbol, unassigned}
+use Rattle.nd_term.specs.Formulas.{Formula as TheoryFormula, Literal as GroundLiteral, unassigned}
 use Rattle.nd_term.specs.Instances.{Chosen}
 use Rattle.nd_term.specs.Lists.{Entry, each_cons, each_nil, entry_here, entry_later}
 use Rattle.nd_term.specs.ThinTrees.{Fits, ThinTree, fits_atom, fits_false, fits_not, fits_or}
 use Rattle.nd_term.proofs.ListLaws.{entry_end}
-use Rattle.flat_development.specs.Clauses.{atom_identifier}
-use Rattle.flat_typing.specs.Translation.{clause_formula, clause_tree, ground_literal, signed_formula, signed_tree, with_literal_formulas, with_trees}
+use Rattle.flat_development.specs.Clauses.{atom_symbol}
+use Rattle.flat_typing.specs.Flat.{clause_tree, ground_literal}
+use Rattle.flat_typing.specs.Views.{theory_formula}
+use Rattle.flat_typing.proofs.ConsumerViews.{tree-Atom, tree-False, tree-Not, tree-Or}
+use Rattle.flat_typing.proofs.FlatTrees.{FlatTree, flat_atom, flat_false, flat_not, flat_or}
+use Rattle.flat_typing.proofs.FormulaViews.{theory-Atom, theory-False, theory-Not, theory-Or}
+use Rattle.flat_typing.proofs.VisitLaws.{contains_cons}
 
 -- ---- entries
 
@@ -64,17 +71,27 @@ module _ (target : List Literal) (pivot : Literal) where
 -- ---- clauses
 
 module _ (sig : List Declaration) (es : List Eigenvariable) where
-  signed_fits : (b : Bool) (name : List ℕ) → Fits sig es true (signed_formula b (atomic (symbol name))) unassigned (signed_tree b) (literal b (ground_symbol name) ∷ [])
-  signed_fits true name = fits_atom true (symbol name) unassigned
-  signed_fits false name = fits_not true (fits_atom false (symbol name) unassigned)
+  -- the tree of a formula passes through it and gives its literals
+  abbrev FitsAs : Bool → Formula → Type 0
+  FitsAs b f = Fits sig es b (theory_formula f) unassigned (clause_tree f) (map ground_literal (signed_literals f b))
 
-  with_literals_fit : (rest : List Literal) {f : Formula} {tree : ThinTree} {c : List GroundLiteral} → Fits sig es true f unassigned tree c
-      → Fits sig es true (with_literal_formulas f rest) unassigned (with_trees tree rest) (c ++ map ground_literal rest)
-  with_literals_fit [] {f = f} {tree = tree} {c = c} h = subst (λ d. Fits sig es true f unassigned tree d) (sym (append-nil c)) h
-  with_literals_fit (l ∷ rest) {f = f} {tree = tree} {c = c} h =
-      subst (λ d. Fits sig es true (with_literal_formulas f (l ∷ rest)) unassigned (with_trees tree (l ∷ rest)) d) (append_assoc c (ground_literal l ∷ []) (map ground_literal rest))
-      (with_literals_fit rest (fits_or h (signed_fits l.positive (atom_identifier l.atom))))
+  -- the same of what these are equal to
+  same_fits : (b : Bool) {f : TheoryFormula} {tree : ThinTree} {c : List GroundLiteral} (g : Formula) → theory_formula g ≡ f → clause_tree g ≡ tree → map ground_literal (signed_literals g b) ≡ c
+      → Fits sig es b f unassigned tree c → FitsAs b g
+  same_fits b {f = f} {tree = tree} {c = c} g ef et ec h =
+      subst (λ y. Fits sig es b y unassigned (clause_tree g) (map ground_literal (signed_literals g b))) (sym ef)
+      (subst (λ y. Fits sig es b f unassigned y (map ground_literal (signed_literals g b))) (sym et)
+      (subst (λ y. Fits sig es b f unassigned tree y) (sym ec) h))
 
-  pub clause_fits : (clause : List Literal) → Fits sig es true (clause_formula clause) unassigned (clause_tree clause) (map ground_literal clause)
-  clause_fits [] = fits_false unassigned
-  clause_fits (l ∷ rest) = with_literals_fit rest (signed_fits l.positive (atom_identifier l.atom))
+  flat_fits : {b : Bool} {f : Formula} → FlatTree b f → FitsAs b f
+  flat_fits flat_false = same_fits true _ theory-False tree-False (ap (map ground_literal) (literals-False true)) (fits_false unassigned)
+  flat_fits (flat_atom sign atom) =
+      same_fits sign _ (theory-Atom (atom_symbol atom) []) (tree-Atom (atom_symbol atom) []) (ap (map ground_literal) (literals-Atom (atom_symbol atom) [] sign)) (fits_atom sign _ unassigned)
+  flat_fits (flat_not {a = a} h) = same_fits true _ (theory-Not a) (tree-Not a) (ap (map ground_literal) (literals-Not a true)) (fits_not true (flat_fits h))
+  flat_fits (flat_or {a = a} {b = b} h k) =
+      same_fits true _ (theory-Or a b) (tree-Or a b)
+      (ap (map ground_literal) (literals-Or a b true) ∙ map-append ground_literal (signed_literals a true) (signed_literals b true))
+      (fits_or (flat_fits h) (flat_fits k))
+
+  pub clause_fits : {f : Formula} → FlatTree true f → Fits sig es true (theory_formula f) unassigned (clause_tree f) (map ground_literal (signed_literals f true))
+  clause_fits h = flat_fits h

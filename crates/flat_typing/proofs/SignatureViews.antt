@@ -1,31 +1,48 @@
--- The signature of the development's commands.
-use Rattle.std.proofs.Common.{◌≡◌, ℕ, List, [], ◌∷◌, ◌++◌, map, refl, ap, ap₂, ◌∙◌}
-use Rattle.flat_text.specs.declared.Hypothesis.{Hypothesis}
-use Rattle.flat_development.specs.Clauses.{atom_identifier}
-use Rattle.flat_development.specs.Development.{constant_of, constants_of, with_hypotheses}
-use Rattle.lp_term.specs.Names.{prop_name}
+-- The signature of the prelude and the constants of symbols.
+use Rattle.std.proofs.Common.{◌≡◌, ℕ, zero, suc, List, [], ◌∷◌, ◌++◌, map, refl, ap, ap₂, ◌∙◌}
+use Rattle.dk_syntax.specs.declared.Kind.{Kind}
+use Rattle.dk_syntax.specs.declared.Kind.TheVariants.{Function, Predicate}
+use Rattle.dk_syntax.specs.declared.SymKey.{SymKey}
+use Rattle.lp_term.specs.Identifiers.{identifier_of}
+use Rattle.lp_term.specs.Connectives.{arrow}
+use Rattle.lp_term.specs.LambdaPi.{Term}
+use Rattle.lp_term.specs.Names.{i_name, prop_name}
 use Rattle.lp_term.specs.Prelude.{prelude}
+use Rattle.lp_term.specs.Problems.{constants_of, function_type, result_of, symbol_type_of}
 use Rattle.lp_term.specs.Signature.{declaration, declarations}
+use Rattle.lp_term.specs.Terms as program
 use Rattle.lp_term.specs.View.{term_of}
 use Rattle.lp_term.specs.declared.Command.{Command}
 use Rattle.lp_term.specs.declared.Command.TheVariants.{Constant, Symbol, Define, Rule}
-use Rattle.lp_term.proofs.ViewLaws.{view_Sym}
-use Rattle.assemble.specs.Problem.{declarations_of}
-use Rattle.flat_typing.specs.Translation.{atom_symbol, problem_signature}
+use Rattle.lp_term.specs.declared.Lp.{Lp}
+use Rattle.lp_term.proofs.ViewLaws.{view_Sym, view_arrow}
+use Rattle.nd_term.specs.Symbols.{function_type as theory_function_type}
+use Rattle.assemble.specs.Problem.{declarations_of, result_type}
+use Rattle.flat_typing.specs.Views.{gives_proposition, problem_signature, theory_symbol}
 
-pub declarations-append : (some others : List Command) → declarations (some ++ others) ≡ declarations some ++ declarations others
+declarations-append : (some others : List Command) → declarations (some ++ others) ≡ declarations some ++ declarations others
 declarations-append [] others = refl
 declarations-append (Constant name type ∷ rest) others = ap (λ l. declaration name (term_of type) ∷ l) (declarations-append rest others)
 declarations-append (Symbol name type ∷ rest) others = ap (λ l. declaration name (term_of type) ∷ l) (declarations-append rest others)
 declarations-append (Define name type body ∷ rest) others = ap (λ l. declaration name (term_of type) ∷ l) (declarations-append rest others)
 declarations-append (Rule left right ∷ rest) others = declarations-append rest others
 
-constants_declare : (atoms : List (List ℕ)) → declarations (map constant_of atoms) ≡ declarations_of (map atom_symbol atoms)
-constants_declare [] = refl
-constants_declare (atom ∷ rest) =
-    ap₂ (λ type l. declaration (atom_identifier atom) type ∷ l) (view_Sym prop_name) (constants_declare rest)
+view_result : (kind : Kind) → term_of (result_of kind) ≡ result_type (gives_proposition kind)
+view_result Function = view_Sym i_name
+view_result Predicate = view_Sym prop_name
 
-pub view_signature : (hypotheses : List Hypothesis) → declarations (prelude ++ constants_of hypotheses) ≡ problem_signature hypotheses
-view_signature hypotheses =
-    declarations-append prelude (constants_of hypotheses)
-    ∙ ap (λ l. declarations prelude ++ l) (constants_declare (with_hypotheses [] hypotheses))
+view_function_type : (arity : ℕ) (r : Lp) (t : Term) → term_of r ≡ t → term_of (function_type arity r) ≡ theory_function_type arity t
+view_function_type zero r t e = e
+view_function_type (suc arity) r t e =
+    view_arrow program.individuals (function_type arity r) ∙ ap₂ arrow (view_Sym i_name) (view_function_type arity r t e)
+
+-- the type of a symbol
+pub view_symbol_type : (one : SymKey) → term_of (symbol_type_of one) ≡ theory_function_type one.arity (result_type (gives_proposition one.kind))
+view_symbol_type one = view_function_type one.arity (result_of one.kind) (result_type (gives_proposition one.kind)) (view_result one.kind)
+
+constants_declare : (symbols : List SymKey) → declarations (constants_of symbols) ≡ declarations_of (map theory_symbol symbols)
+constants_declare [] = refl
+constants_declare (one ∷ rest) = ap₂ (λ type l. declaration (identifier_of one) type ∷ l) (view_symbol_type one) (constants_declare rest)
+
+pub view_signature : (symbols : List SymKey) → declarations (prelude ++ constants_of symbols) ≡ problem_signature symbols
+view_signature symbols = declarations-append prelude (constants_of symbols) ∙ ap (λ l. declarations prelude ++ l) (constants_declare symbols)

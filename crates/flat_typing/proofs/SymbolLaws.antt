@@ -1,111 +1,162 @@
--- The hypotheses' formulas are over the problem's symbols.
-use Rattle.std.proofs.Common.{◌≡◌, ℕ, Bool, true, false, ◌||◌, if◌then◌else◌, List, [], ◌∷◌, ◌++◌, map, refl, sym, ap, subst}
+-- The symbols of a problem's formulas are declared, and a flat problem's hypotheses are over them.
+use Rattle.std.proofs.Common.{◌≡◌, ℕ, Bool, true, false, ◌&&◌, ◌||◌, if◌then◌else◌, nat_eq, List, [], ◌∷◌, ◌++◌, map, refl, sym, ap, subst}
 use Rattle.std.specs.Cmp.Lexicographic.{pointwise}
-use Rattle.std.specs.Prelude.{nat_eq}
-use Rattle.flat_steps.proofs.LeastPairs.{name_test}
-use Rattle.flat_text.specs.declared.Hypothesis.{Hypothesis}
-use Rattle.flat_text.specs.declared.Literal.{Literal}
-use Rattle.flat_development.specs.Clauses.{atom_identifier}
-use Rattle.flat_development.specs.Development.{has_atom, with_atoms, with_hypotheses}
-use Rattle.lp_term.specs.Connectives.{propositions}
+use Rattle.std.specs.List.{list_any}
+use Rattle.std.proofs.lemmas.Bool.Decides.{Decides-eqb}
+use Rattle.dk_syntax.specs.Problems.{HasItsSymbols, formula_of, formulas_of}
+use Rattle.dk_syntax.specs.Symbols.{formula_occurrences, joined, same_kind, same_symbol, with_symbol, with_symbols}
+use Rattle.dk_syntax.specs.declared.Formula.{Formula}
+use Rattle.dk_syntax.specs.declared.Kind.{Kind}
+use Rattle.dk_syntax.specs.declared.Kind.TheVariants.{Function, Predicate}
+use Rattle.dk_syntax.specs.declared.Named.{Named}
+use Rattle.dk_syntax.specs.declared.Problem.{Problem}
+use Rattle.dk_syntax.specs.declared.SymKey.{SymKey}
+use Rattle.dk_syntax.proofs.FormulaLaws.{occurrences-Atom, occurrences-Not, occurrences-Or}
+use Rattle.flat_development.specs.Clauses.{atom_symbol}
+use Rattle.lp_term.specs.Identifiers.{identifier_of}
+use Rattle.lp_term.specs.LambdaPi.{Term}
 use Rattle.lp_term.specs.Signature.{prelude_declarations}
 use Rattle.lp_term.specs.Typing.{Declaration, Declares, declared_here, declared_later}
-use Rattle.nd_term.specs.Formulas.{Formula, disjunction}
 use Rattle.nd_term.specs.Lists.{Every, every_cons, every_nil}
-use Rattle.nd_term.specs.Symbols.{FormulaOver, over_atomic, over_disjunction, over_falsity, over_negation, over_symbol}
-use Rattle.assemble.specs.Problem.{declaration_of, declarations_of}
-use Rattle.flat_typing.specs.Translation.{atom_symbol, clause_formula, hypothesis_formula, literal_formula, problem_signature, signed_formula, with_literal_formulas}
+use Rattle.nd_term.specs.Symbols.{FormulaOver, function_type, over_atomic, over_disjunction, over_falsity, over_negation, over_symbol}
+use Rattle.assemble.specs.Problem.{declaration_of, declarations_of, result_type}
+use Rattle.flat_typing.specs.Views.{gives_proposition, problem_signature, theory_formula, theory_formulas, theory_symbol}
+use Rattle.flat_typing.proofs.FlatHypotheses.{AreFlat}
+use Rattle.flat_typing.proofs.FlatTrees.{FlatTree, both_true, flat_atom, flat_false, flat_not, flat_or}
+use Rattle.flat_typing.proofs.FormulaViews.{theory-Atom, theory-False, theory-Not, theory-Or}
 
--- the atom is declared by these
-abbrev pub IsIn : List (List ℕ) → List ℕ → Type 0
-IsIn atoms atom = Declares (declarations_of (map atom_symbol atoms)) (atom_identifier atom) propositions
+-- ---- when two symbols are one
 
-first_in : (atom : List ℕ) (rest : List (List ℕ)) → IsIn (atom ∷ rest) atom
-first_in atom rest = declared_here _ _
+pub names_same : (m n : List ℕ) → pointwise nat_eq m n ≡ true → m ≡ n
+names_same [] [] e = refl
+names_same [] (b ∷ n) e = absurd cc
+names_same (a ∷ m) [] e = absurd cc
+names_same (a ∷ m) (b ∷ n) e =
+    let parts = both_true (nat_eq a b) (pointwise nat_eq m n) e in
+    let first = (Decides-eqb a b).0 parts.0 in
+    let rest = names_same m n parts.1 in
+    cc
 
-last_in : (seen : List (List ℕ)) (atom : List ℕ) → IsIn (seen ++ atom ∷ []) atom
-last_in [] atom = first_in atom []
-last_in (one ∷ seen) atom = declared_later _ (last_in seen atom)
+kinds_same : (a b : Kind) → same_kind a b ≡ true → a ≡ b
+kinds_same Function Function e = refl
+kinds_same Function Predicate e = absurd cc
+kinds_same Predicate Function e = absurd cc
+kinds_same Predicate Predicate e = refl
 
-declares_left : {l : List Declaration} {s : List ℕ} (m : List Declaration) → Declares l s propositions → Declares (l ++ m) s propositions
+symbols_same : (a b : SymKey) → same_symbol a b ≡ true → a ≡ b
+symbols_same a b e =
+    let parts = both_true (pointwise nat_eq a.name b.name && nat_eq a.arity b.arity) (same_kind a.kind b.kind) e in
+    let more = both_true (pointwise nat_eq a.name b.name) (nat_eq a.arity b.arity) parts.0 in
+    let names = names_same a.name b.name more.0 in
+    let arities = (Decides-eqb a.arity b.arity).0 more.1 in
+    let kinds = kinds_same a.kind b.kind parts.1 in
+    λ i. record { name = names i; arity = arities i; kind = kinds i }
+
+-- ---- what symbols declare
+
+-- the type that a symbol is declared with
+abbrev pub type_of_symbol : SymKey → Term
+type_of_symbol one = function_type one.arity (result_type (gives_proposition one.kind))
+
+-- the symbol is declared by these
+abbrev pub IsIn : List SymKey → SymKey → Type 0
+IsIn symbols one = Declares (declarations_of (map theory_symbol symbols)) (identifier_of one) (type_of_symbol one)
+
+first_in : (one : SymKey) (rest : List SymKey) → IsIn (one ∷ rest) one
+first_in one rest = declared_here _ _
+
+last_in : (seen : List SymKey) (one : SymKey) → IsIn (seen ++ one ∷ []) one
+last_in [] one = first_in one []
+last_in (other ∷ seen) one = declared_later _ (last_in seen one)
+
+declares_left : {l : List Declaration} {s : List ℕ} {a : Term} (m : List Declaration) → Declares l s a → Declares (l ++ m) s a
 declares_left m (declared_here l d) = declared_here (l ++ m) d
 declares_left m (declared_later d h) = declared_later d (declares_left m h)
 
-declarations_more : (seen others : List (List ℕ)) → declarations_of (map atom_symbol (seen ++ others)) ≡ declarations_of (map atom_symbol seen) ++ declarations_of (map atom_symbol others)
+declarations_more : (seen others : List SymKey) → declarations_of (map theory_symbol (seen ++ others)) ≡ declarations_of (map theory_symbol seen) ++ declarations_of (map theory_symbol others)
 declarations_more [] others = refl
-declarations_more (one ∷ seen) others = ap (λ l. declaration_of (atom_symbol one) ∷ l) (declarations_more seen others)
+declarations_more (one ∷ seen) others = ap (λ l. declaration_of (theory_symbol one) ∷ l) (declarations_more seen others)
 
-still_in : (seen : List (List ℕ)) (next atom : List ℕ) → IsIn seen atom → IsIn (seen ++ next ∷ []) atom
-still_in seen next atom h = subst (λ l. Declares l (atom_identifier atom) propositions) (sym (declarations_more seen (next ∷ []))) (declares_left (declarations_of (map atom_symbol (next ∷ []))) h)
+still_in : (seen : List SymKey) (next one : SymKey) → IsIn seen one → IsIn (seen ++ next ∷ []) one
+still_in seen next one h =
+    subst (λ l. Declares l (identifier_of one) (type_of_symbol one)) (sym (declarations_more seen (next ∷ []))) (declares_left (declarations_of (map theory_symbol (next ∷ []))) h)
 
-found_first : (b : Bool) (one atom : List ℕ) (seen : List (List ℕ)) → pointwise nat_eq atom one ≡ b → (b || has_atom seen atom) ≡ true → (has_atom seen atom ≡ true → IsIn seen atom) → IsIn (one ∷ seen) atom
-found_first true one atom seen e h more = subst (λ a. IsIn (one ∷ seen) a) (sym ((name_test atom one).0 e)) (first_in one seen)
-found_first false one atom seen e h more = declared_later _ (more h)
+found_first : (b : Bool) (other one : SymKey) (seen : List SymKey) → same_symbol one other ≡ b → (b || list_any (same_symbol one) seen) ≡ true
+    → (list_any (same_symbol one) seen ≡ true → IsIn seen one) → IsIn (other ∷ seen) one
+found_first true other one seen e h more = subst (λ s. IsIn (other ∷ seen) s) (sym (symbols_same one other e)) (first_in other seen)
+found_first false other one seen e h more = declared_later _ (more h)
 
-found_in : (seen : List (List ℕ)) (atom : List ℕ) → has_atom seen atom ≡ true → IsIn seen atom
-found_in [] atom h = absurd cc
-found_in (one ∷ seen) atom h = found_first (pointwise nat_eq atom one) one atom seen refl h (λ k. found_in seen atom k)
+found_in : (seen : List SymKey) (one : SymKey) → list_any (same_symbol one) seen ≡ true → IsIn seen one
+found_in [] one h = absurd cc
+found_in (other ∷ seen) one h = found_first (same_symbol one other) other one seen refl h (λ k. found_in seen one k)
 
-added_keeps : (b : Bool) (seen : List (List ℕ)) (next atom : List ℕ) → IsIn seen atom → IsIn (if b then seen else seen ++ next ∷ []) atom
-added_keeps true seen next atom h = h
-added_keeps false seen next atom h = still_in seen next atom h
+added_keeps : (b : Bool) (seen : List SymKey) (next one : SymKey) → IsIn seen one → IsIn (if b then seen else seen ++ next ∷ []) one
+added_keeps true seen next one h = h
+added_keeps false seen next one h = still_in seen next one h
 
-added_in : (b : Bool) (seen : List (List ℕ)) (atom : List ℕ) → has_atom seen atom ≡ b → IsIn (if b then seen else seen ++ atom ∷ []) atom
-added_in true seen atom e = found_in seen atom e
-added_in false seen atom e = last_in seen atom
+added_in : (b : Bool) (seen : List SymKey) (one : SymKey) → list_any (same_symbol one) seen ≡ b → IsIn (if b then seen else seen ++ one ∷ []) one
+added_in true seen one e = found_in seen one e
+added_in false seen one e = last_in seen one
 
-atoms_keep : (seen : List (List ℕ)) (literals : List Literal) (atom : List ℕ) → IsIn seen atom → IsIn (with_atoms seen literals) atom
-atoms_keep seen [] atom h = h
-atoms_keep seen (l ∷ rest) atom h =
-    atoms_keep (if has_atom seen l.atom then seen else seen ++ l.atom ∷ []) rest atom (added_keeps (has_atom seen l.atom) seen l.atom atom h)
+symbols_keep : (seen list : List SymKey) (one : SymKey) → IsIn seen one → IsIn (with_symbols seen list) one
+symbols_keep seen [] one h = h
+symbols_keep seen (next ∷ rest) one h =
+    symbols_keep (with_symbol seen next) rest one (added_keeps (list_any (same_symbol next) seen) seen next one h)
 
-hypotheses_keep : (seen : List (List ℕ)) (hypotheses : List Hypothesis) (atom : List ℕ) → IsIn seen atom → IsIn (with_hypotheses seen hypotheses) atom
-hypotheses_keep seen [] atom h = h
-hypotheses_keep seen (one ∷ rest) atom h = hypotheses_keep (with_atoms seen one.clause) rest atom (atoms_keep seen one.clause atom h)
+-- each occurrence is declared
+pub symbols_in : (seen list : List SymKey) → Every (IsIn (with_symbols seen list)) list
+symbols_in seen [] = every_nil
+symbols_in seen (next ∷ rest) =
+    every_cons (symbols_keep (with_symbol seen next) rest next (added_in (list_any (same_symbol next) seen) seen next refl)) (symbols_in (with_symbol seen next) rest)
 
-literals_in : (seen : List (List ℕ)) (literals : List Literal) → Every (λ l. IsIn (with_atoms seen literals) l.atom) literals
-literals_in seen [] = every_nil
-literals_in seen (l ∷ rest) =
-    let next = if has_atom seen l.atom then seen else seen ++ l.atom ∷ [] in
-    every_cons (atoms_keep next rest l.atom (added_in (has_atom seen l.atom) seen l.atom refl)) (literals_in next rest)
+-- ---- the formulas of a problem
 
-every_weaker : {p q : Literal → Type 0} {l : List Literal} → ((a : Literal) → p a → q a) → Every p l → Every q l
-every_weaker w every_nil = every_nil
-every_weaker w (every_cons {a = a} h hs) = every_cons (w a h) (every_weaker w hs)
+pub every_parts : {A : Type 0} {p : A → Type 0} (l m : List A) → Every p (l ++ m) → Every p l × Every p m
+every_parts [] m h = (every_nil, h)
+every_parts (a ∷ l) m (every_cons h hs) = let rest = every_parts l m hs in (every_cons h rest.0, rest.1)
 
-hypotheses_in : (seen : List (List ℕ)) (hypotheses : List Hypothesis) → Every (λ h. Every (λ l. IsIn (with_hypotheses seen hypotheses) l.atom) h.clause) hypotheses
-hypotheses_in seen [] = every_nil
-hypotheses_in seen (one ∷ rest) =
-    every_cons (every_weaker (λ l h. hypotheses_keep (with_atoms seen one.clause) rest l.atom h) (literals_in seen one.clause)) (hypotheses_in (with_atoms seen one.clause) rest)
+-- the symbols that occur in the hypotheses are declared by these
+abbrev pub AreDeclared : List SymKey → List Named → Type 0
+AreDeclared symbols hypotheses = Every (λ h. Every (IsIn symbols) (formula_occurrences h.formula)) hypotheses
 
--- ---- formulas
+hypotheses_declared : (symbols : List SymKey) (hypotheses : List Named) (others : List Formula)
+    → Every (IsIn symbols) (joined (map formula_occurrences (map (λ named. named.formula) hypotheses ++ others))) → AreDeclared symbols hypotheses
+hypotheses_declared symbols [] others all = every_nil
+hypotheses_declared symbols (h ∷ rest) others all =
+    let parts = every_parts (formula_occurrences h.formula) (joined (map formula_occurrences (map (λ named. named.formula) rest ++ others))) all in
+    every_cons parts.0 (hypotheses_declared symbols rest others parts.1)
 
-after_prelude : {m : List Declaration} {s : List ℕ} (l : List Declaration) → Declares m s propositions → Declares (l ++ m) s propositions
+pub problem_declared : (problem : Problem) → HasItsSymbols problem → AreDeclared problem.symbols problem.hyps
+problem_declared problem e =
+    let occurrences = joined (map formula_occurrences (formulas_of problem)) in
+    hypotheses_declared problem.symbols problem.hyps (formula_of problem.conjecture)
+    (subst (λ symbols. Every (IsIn symbols) occurrences) (sym e) (symbols_in [] occurrences))
+
+-- ---- flat formulas
+
+pub after_prelude : {m : List Declaration} {s : List ℕ} {a : Term} (l : List Declaration) → Declares m s a → Declares (l ++ m) s a
 after_prelude [] h = h
 after_prelude (d ∷ l) h = declared_later d (after_prelude l h)
 
-signed_over : {sig : List Declaration} {f : Formula} (b : Bool) → FormulaOver sig f → FormulaOver sig (signed_formula b f)
-signed_over true h = h
-signed_over false h = over_negation h
+module _ (symbols : List SymKey) where
+  first_of_every : {one : SymKey} {rest : List SymKey} → Every (IsIn symbols) (one ∷ rest) → IsIn symbols one
+  first_of_every (every_cons h hs) = h
 
-module _ (sig : List Declaration) where
-  literal_over : (l : Literal) → Declares sig (atom_identifier l.atom) propositions → FormulaOver sig (literal_formula l)
-  literal_over l h = signed_over l.positive (over_atomic (over_symbol 0 h))
+  flat_over : {b : Bool} {f : Formula} → FlatTree b f → Every (IsIn symbols) (formula_occurrences f) → FormulaOver (problem_signature symbols) (theory_formula f)
+  flat_over flat_false all = subst (λ f. FormulaOver (problem_signature symbols) f) (sym theory-False) over_falsity
+  flat_over (flat_atom sign atom) all =
+      let known = first_of_every (subst (λ l. Every (IsIn symbols) l) (occurrences-Atom (atom_symbol atom) []) all) in
+      subst (λ f. FormulaOver (problem_signature symbols) f) (sym (theory-Atom (atom_symbol atom) [])) (over_atomic (over_symbol 0 (after_prelude prelude_declarations known)))
+  flat_over (flat_not {a = a} h) all =
+      subst (λ f. FormulaOver (problem_signature symbols) f) (sym (theory-Not a))
+      (over_negation (flat_over h (subst (λ l. Every (IsIn symbols) l) (occurrences-Not a) all)))
+  flat_over (flat_or {a = a} {b = b} h k) all =
+      let parts = every_parts (formula_occurrences a) (formula_occurrences b) (subst (λ l. Every (IsIn symbols) l) (occurrences-Or a b) all) in
+      subst (λ f. FormulaOver (problem_signature symbols) f) (sym (theory-Or a b)) (over_disjunction (flat_over h parts.0) (flat_over k parts.1))
 
-  literals_over : (f : Formula) (literals : List Literal) → FormulaOver sig f → Every (λ l. Declares sig (atom_identifier l.atom) propositions) literals → FormulaOver sig (with_literal_formulas f literals)
-  literals_over f [] o every_nil = o
-  literals_over f (l ∷ rest) o (every_cons h hs) = literals_over (disjunction f (literal_formula l)) rest (over_disjunction o (literal_over l h)) hs
+  hypotheses_are_over : (hypotheses : List Named) → AreFlat hypotheses → AreDeclared symbols hypotheses → Every (λ f. FormulaOver (problem_signature symbols) f) (theory_formulas hypotheses)
+  hypotheses_are_over [] every_nil every_nil = every_nil
+  hypotheses_are_over (h ∷ rest) (every_cons i is) (every_cons j js) = every_cons (flat_over i j) (hypotheses_are_over rest is js)
 
-  clause_over : (clause : List Literal) → Every (λ l. Declares sig (atom_identifier l.atom) propositions) clause → FormulaOver sig (clause_formula clause)
-  clause_over [] every_nil = over_falsity
-  clause_over (l ∷ rest) (every_cons h hs) = literals_over (literal_formula l) rest (literal_over l h) hs
-
-module _ (atoms : List (List ℕ)) where
-  formulas_over : (hypotheses : List Hypothesis) → Every (λ h. Every (λ l. IsIn atoms l.atom) h.clause) hypotheses
-      → Every (λ f. FormulaOver (prelude_declarations ++ declarations_of (map atom_symbol atoms)) f) (map hypothesis_formula hypotheses)
-  formulas_over [] every_nil = every_nil
-  formulas_over (h ∷ rest) (every_cons i is) =
-      every_cons (clause_over (prelude_declarations ++ declarations_of (map atom_symbol atoms)) h.clause (every_weaker (λ l k. after_prelude prelude_declarations k) i)) (formulas_over rest is)
-
-pub hypotheses_over : (hypotheses : List Hypothesis) → Every (λ f. FormulaOver (problem_signature hypotheses) f) (map hypothesis_formula hypotheses)
-hypotheses_over hypotheses = formulas_over (with_hypotheses [] hypotheses) hypotheses (hypotheses_in [] hypotheses)
+pub hypotheses_over : (problem : Problem) → AreFlat problem.hyps → HasItsSymbols problem → Every (λ f. FormulaOver (problem_signature problem.symbols) f) (theory_formulas problem.hyps)
+hypotheses_over problem flat has = hypotheses_are_over problem.symbols problem.hyps flat (problem_declared problem has)

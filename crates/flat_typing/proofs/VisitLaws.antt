@@ -4,10 +4,13 @@ use Rattle.std.proofs.lemmas.Bool.Decides.{Decides-eqb}
 use Rattle.std.proofs.lemmas.List.Elements.{Contains-append_left, Contains-push}
 use Rattle.flat_steps.specs.declared.Base.{Base}
 use Rattle.flat_steps.specs.Plan.{Visits, done, fresh, needs, number_in, seen}
-use Rattle.flat_steps.proofs.Cuttings.{contains_cons}
 use Rattle.nd_term.specs.Lists.{Entry, Every, entry_here, entry_later, every_cons, every_nil}
 
 -- ---- where an element of a list with one more stands
+
+pub contains_cons : (n first : ℕ) (rest : List ℕ) → Contains (first ∷ rest) n → (first ≡ n) ⊎ Contains rest n
+contains_cons n first rest (zero, l, e) = inl e
+contains_cons n first rest (suc k, l, e) = inr (k, omega arith, e)
 
 not_nil : {A : Type 0} (front back : List A) (a : A) → [] ≡ front ++ a ∷ back → ⊥
 not_nil [] back a e = cc

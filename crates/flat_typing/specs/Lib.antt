@@ -1,5 +1,6 @@
+pub mod Flat
 pub mod Joined
 pub mod Laws
 pub mod Levels
 pub mod PlanTypes
-pub mod Translation
+pub mod Views

@@ -11,14 +11,14 @@ returns-in-None c = unknown (sym c.in-None.ensures)
 pub returns-in_ok-hypothesis-in-Some : goal.returns-in_ok-hypothesis-in-Some
 returns-in_ok-hypothesis-in-Some c =
     let hypothesis = c.index-hypotheses-place.result in
-    let same : hypothesis.clause ≡ c.args.clause.now = grind (arith, common_steps, c.same_clause.ensures) in
-    subst (λ z. IsLeafVerdict c.args.hypotheses.now c.args.clause.now c.args.name.now (Leaf z)) (sym c.in_ok-hypothesis-in-Some.ensures)
+    let same : hypothesis.formula ≡ c.args.formula.now = grind (arith, common_steps, c.alpha_eq.ensures) in
+    subst (λ z. IsLeafVerdict c.args.hypotheses.now c.args.formula.now c.args.name.now (Leaf z)) (sym c.in_ok-hypothesis-in-Some.ensures)
     (leaf c.in-Some.place hypothesis (sym c.in-Some.ensures)
     (named_stands c.args.hypotheses.now c.args.name.now c.in-Some.place hypothesis (sym c.in-Some.ensures) c.index-hypotheses-place.is) same)
 
-pub returns-else-same_clause : goal.returns-else-same_clause
-returns-else-same_clause c =
+pub returns-else-alpha_eq : goal.returns-else-alpha_eq
+returns-else-alpha_eq c =
     let hypothesis = c.index-hypotheses-place.result in
     altered c.in-Some.place hypothesis (sym c.in-Some.ensures)
     (named_stands c.args.hypotheses.now c.args.name.now c.in-Some.place hypothesis (sym c.in-Some.ensures) c.index-hypotheses-place.is)
-    (λ same. grind (arith, common_steps, c.same_clause.ensures))
+    (λ same. grind (arith, common_steps, c.alpha_eq.ensures))

@@ -4,4 +4,4 @@ use Rattle.flat_steps.proofs.Walks.{NoSubsumptionBelow}
 use Rattle.flat_steps.proofs.resolution.least_subsumption.Given as goal
 
 abbrev pub invariant-loop-parent : goal.invariant-loop-parent
-invariant-loop-parent l = NoSubsumptionBelow l.target (map (clause_at l.steps) l.parents) l.parent
+invariant-loop-parent l = NoSubsumptionBelow l.target (map (clause_at l.clauses) l.parents) l.parent

@@ -1,5 +1,6 @@
 use Rattle.std.proofs.Common.{ℕ, List, [], ◌∷◌, length, reverse}
 use Rattle.flat_steps.specs.Plan.{Visits}
+use Rattle.flat_steps.specs.Ranks.{rank_in}
 use Rattle.flat_steps.specs.Tasks.{Does, AreTasksBelow, effort}
 use Rattle.flat_steps.proofs.visiting.visited.Given as goal
 
@@ -9,4 +10,4 @@ invariant-loop-task l =
     × AreTasksBelow (length l.bases) (reverse l.tasks.items)
 
 abbrev pub decreases-loop-task : goal.decreases-loop-task
-decreases-loop-task l = effort (reverse l.tasks.items)
+decreases-loop-task l = effort (rank_in l.order) (reverse l.tasks.items)

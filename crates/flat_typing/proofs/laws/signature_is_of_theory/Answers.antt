@@ -2,4 +2,4 @@ use Rattle.flat_typing.proofs.SignatureViews.{view_signature}
 use Rattle.flat_typing.proofs.laws.signature_is_of_theory.Goals as goal
 
 pub returns : goal.returns
-returns c = λ hypotheses. view_signature hypotheses
+returns c = λ symbols. view_signature symbols

@@ -1,9 +1,0 @@
-pub mod Layers
-pub mod Longest
-pub mod Spelled
-pub mod Naming
-pub mod Found
-pub mod Only
-pub mod Told
-pub mod TraceLaws
-pub mod TextLaws

@@ -9,29 +9,23 @@ use Rattle.dk_cli.specs.Commands.{Convert}
 use Rattle.dk_cli.specs.Delivery.{Change, Delivers, IsCut, IsNoted, IsRefused, IsUntouched, IsWritten}
 use Rattle.dk_cli.specs.Headline.{CanCome, CarriesOutEach, DoesOutcome, IsCarriedOut, IsDone, Lacks, NotesByStatus, WritesByStatus}
 use Rattle.dk_cli.specs.Outcome.{IsOutcome}
-use Rattle.dk_cli.specs.Refusals.{line_of, status_of, NamesStep}
+use Rattle.dk_cli.specs.Refusals.{line_of, status_of, HasNumber}
 use Rattle.dk_cli.specs.declared.refusal.Refusal.{Refusal}
-use Rattle.dk_cli.specs.declared.refusal.Refusal.TheVariants.{Words, ReadFault, TooLong, Unbuilt, NoRefutation, Wrong, WriteFault, Memory}
+use Rattle.dk_cli.specs.declared.refusal.Refusal.TheVariants.{Words, ReadFault, WriteFault, Memory}
 use Rattle.dk_cli.specs.declared.refusal.Status.{Status}
 use Rattle.dk_cli.specs.declared.refusal.Status.TheVariants as status
 use Rattle.dk_cli.proofs.OneOutcome.{one_outcome}
 
 -- a refusal's status is its own, or that memory ran out
 pub refused_status : (refusal : Refusal) (result : Status) (notes : Change)
-    → IsRefused refusal result notes ⊎ (NamesStep refusal × IsRefused Memory result notes) → (result ≡ status_of refusal) ⊎ (result ≡ status.Memory)
+    → IsRefused refusal result notes ⊎ (HasNumber refusal × IsRefused Memory result notes) → (result ≡ status_of refusal) ⊎ (result ≡ status.Memory)
 refused_status refusal result notes (inl h) = inl h.status
 refused_status refusal result notes (inr h) = inr h.1.status
 
 -- no refusal has status 0, and none a status that can't come
 can_refuse : (refusal : Refusal) → CanCome (status_of refusal)
 can_refuse Words = tt
-can_refuse (ReadFault file) = tt
-can_refuse (TooLong file) = tt
-can_refuse (Unbuilt file) = tt
-can_refuse NoRefutation = tt
-can_refuse (Wrong step reason) = tt
-can_refuse WriteFault = tt
-can_refuse Memory = tt
+can_refuse refusal = tt
 
 pub can_come : (answer : Result (List ℕ) Refusal) (result : Status) (out notes : Change) → Delivers answer result out notes → CanCome result
 can_come (Ok text) result out notes (inl w) = subst CanCome (sym w.status) tt
@@ -41,14 +35,8 @@ can_come (Err refusal) result out notes d =
 
 -- a refusal but that of a write fault leaves the sink alone
 untouched_by : (refusal : Refusal) (out : Change) → refusal ≢ WriteFault → IsUntouched out → WritesByStatus (status_of refusal) out
-untouched_by Words out other u = u
-untouched_by (ReadFault file) out other u = u
-untouched_by (TooLong file) out other u = u
-untouched_by (Unbuilt file) out other u = u
-untouched_by NoRefutation out other u = u
-untouched_by (Wrong step reason) out other u = u
 untouched_by WriteFault out other u = absurd (other refl)
-untouched_by Memory out other u = u
+untouched_by refusal out other u = u
 
 -- no answer is a write fault
 never_write_fault : (told : Told) (command : Option Convert) (before now : ℕ) (answer : Result (List ℕ) Refusal)
@@ -69,13 +57,7 @@ writes_by told command before now (Err refusal) result out notes a d =
 -- each refusal sends one line
 noted_by : (refusal : Refusal) (notes : Change) → IsNoted notes (line_of refusal) → NotesByStatus (status_of refusal) notes
 noted_by Words notes n = (line_of Words, n)
-noted_by (ReadFault file) notes n = (line_of (ReadFault file), n)
-noted_by (TooLong file) notes n = (line_of (TooLong file), n)
-noted_by (Unbuilt file) notes n = (line_of (Unbuilt file), n)
-noted_by NoRefutation notes n = (line_of NoRefutation, n)
-noted_by (Wrong step reason) notes n = (line_of (Wrong step reason), n)
-noted_by WriteFault notes n = (line_of WriteFault, n)
-noted_by Memory notes n = (line_of Memory, n)
+noted_by refusal notes n = (line_of refusal, n)
 
 one_line : (refusal : Refusal) (result : Status) (notes : Change) → IsRefused refusal result notes → NotesByStatus result notes
 one_line refusal result notes r = subst (λ s. NotesByStatus s notes) (sym r.status) (noted_by refusal notes r.line)
@@ -88,13 +70,8 @@ notes_by (Err refusal) result out notes d = elim d.1 [ inl r ↦ one_line refusa
 -- the status of words comes only for words
 not_words : (refusal : Refusal) → ComesBeforeWriting refusal → status_of refusal ≢ status.Words
 not_words Words h e = h
-not_words (ReadFault file) h e = cc
-not_words (TooLong file) h e = cc
-not_words (Unbuilt file) h e = cc
-not_words NoRefutation h e = cc
-not_words (Wrong step reason) h e = cc
 not_words WriteFault h e = h
-not_words Memory h e = cc
+not_words refusal h e = cc
 
 command_not_words : (told : Told) (command : Convert) (before now : ℕ) (answer : Result (List ℕ) Refusal) (result : Status) (out notes : Change)
     → AnswersCommand told command before now answer → Delivers answer result out notes → result ≢ status.Words
@@ -126,7 +103,7 @@ words_count told (Some command) before now answer a e = cc
 
 -- what was told without memory running out is the refusal itself
 refused_itself : (refusal : Refusal) (result : Status) (notes : Change) → result ≢ status.Memory
-    → IsRefused refusal result notes ⊎ (NamesStep refusal × IsRefused Memory result notes) → IsRefused refusal result notes
+    → IsRefused refusal result notes ⊎ (HasNumber refusal × IsRefused Memory result notes) → IsRefused refusal result notes
 refused_itself refusal result notes memory (inl r) = r
 refused_itself refusal result notes memory (inr r) = absurd (memory r.1.status)
 
@@ -139,13 +116,7 @@ done_by (Err refusal) result out notes memory d = (d.0, refused_itself refusal r
 memory_status : (answer : Result (List ℕ) Refusal) (result : Status) (out notes : Change) → IsMemory answer → Delivers answer result out notes → result ≡ status.Memory
 memory_status (Ok text) result out notes m d = absurd m
 memory_status (Err Memory) result out notes m d = elim d.1 [ inl r ↦ r.status | inr r ↦ r.1.status ]
-memory_status (Err Words) result out notes m d = absurd m
-memory_status (Err (ReadFault file)) result out notes m d = absurd m
-memory_status (Err (TooLong file)) result out notes m d = absurd m
-memory_status (Err (Unbuilt file)) result out notes m d = absurd m
-memory_status (Err NoRefutation) result out notes m d = absurd m
-memory_status (Err (Wrong step reason)) result out notes m d = absurd m
-memory_status (Err WriteFault) result out notes m d = absurd m
+memory_status (Err refusal) result out notes m d = absurd m
 
 told_itself : (told : Told) (command : Convert) (before now : ℕ) (answer : Result (List ℕ) Refusal) (result : Status) (out notes : Change)
     → AnswersCommand told command before now answer → Delivers answer result out notes → ¬ Rose before now → result ≢ status.Memory
@@ -188,13 +159,7 @@ some_carries told (Some command) before now answer result out notes a d = carrie
 fault_status : (answer : Result (List ℕ) Refusal) (result : Status) (out notes : Change) → IsReadFault answer → Delivers answer result out notes → result ≡ status.ReadFault
 fault_status (Ok text) result out notes f d = absurd f
 fault_status (Err (ReadFault file)) result out notes f d = elim d.1 [ inl r ↦ r.status | inr r ↦ absurd r.0 ]
-fault_status (Err Memory) result out notes f d = absurd f
-fault_status (Err Words) result out notes f d = absurd f
-fault_status (Err (TooLong file)) result out notes f d = absurd f
-fault_status (Err (Unbuilt file)) result out notes f d = absurd f
-fault_status (Err NoRefutation) result out notes f d = absurd f
-fault_status (Err (Wrong step reason)) result out notes f d = absurd f
-fault_status (Err WriteFault) result out notes f d = absurd f
+fault_status (Err refusal) result out notes f d = absurd f
 
 pub read_rose : (told : Told) (command : Option Convert) (before now : ℕ) (answer : Result (List ℕ) Refusal) (result : Status) (out notes : Change)
     → Answers told command before now answer → Delivers answer result out notes → before < now → result ≡ status.ReadFault
@@ -209,18 +174,29 @@ read_lacks told (Some command) before now answer result out notes a d lacks = el
   | inr m ↦ inr (memory_status answer result out notes m d)
 ]
 
+-- the status of a read fault comes only for one
+is_read_fault : (refusal : Refusal) → status_of refusal ≡ status.ReadFault → IsReadFault (Err refusal)
+is_read_fault (ReadFault file) e = tt
+is_read_fault refusal e = absurd cc
+
+command_read_only : (told : Told) (command : Convert) (before now : ℕ) (answer : Result (List ℕ) Refusal) (result : Status) (out notes : Change)
+    → AnswersCommand told command before now answer → Delivers answer result out notes → result ≡ status.ReadFault → Rose before now ⊎ LacksFile told command
+command_read_only told command before now (Ok text) result out notes a (inl w) e = let s = sym w.status ∙ e in absurd cc
+command_read_only told command before now (Ok text) result out notes a (inr w) e = let s = sym w.refused.status ∙ e in absurd cc
+command_read_only told command before now (Err refusal) result out notes a d e =
+    elim (refused_status refusal result notes d.1) [ inl s ↦ a.read_fault (is_read_fault refusal (sym s ∙ e)) | inr s ↦ let m = sym s ∙ e in absurd cc ]
+
+pub read_only : (told : Told) (command : Option Convert) (before now : ℕ) (answer : Result (List ℕ) Refusal) (result : Status) (out notes : Change)
+    → Answers told command before now answer → Delivers answer result out notes → result ≡ status.ReadFault → Rose before now ⊎ Lacks told command
+read_only told None before now answer result out notes a d e = let words = sym (told_words answer result out notes a.0 d) ∙ e in absurd cc
+read_only told (Some command) before now answer result out notes a d e = command_read_only told command before now answer result out notes a d e
+
 -- no refusal ends with status 0
 not_done : (refusal : Refusal) → status_of refusal ≢ status.Done
 not_done Words e = cc
-not_done (ReadFault file) e = cc
-not_done (TooLong file) e = cc
-not_done (Unbuilt file) e = cc
-not_done NoRefutation e = cc
-not_done (Wrong step reason) e = cc
-not_done WriteFault e = cc
-not_done Memory e = cc
+not_done refusal e = cc
 
 pub refusal_not_done : (refusal : Refusal) (result : Status) (notes : Change)
-    → IsRefused refusal result notes ⊎ (NamesStep refusal × IsRefused Memory result notes) → result ≢ status.Done
+    → IsRefused refusal result notes ⊎ (HasNumber refusal × IsRefused Memory result notes) → result ≢ status.Done
 refusal_not_done refusal result notes (inl r) done = not_done refusal (sym r.status ∙ done)
 refusal_not_done refusal result notes (inr r) done = not_done Memory (sym r.1.status ∙ done)

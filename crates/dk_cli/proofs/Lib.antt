@@ -1,5 +1,9 @@
 pub mod Carried
-pub mod Developed
+pub mod Derived
+pub mod OneAnswer
 pub mod OneOutcome
+pub mod OutcomeLaws
 pub mod Proved
+pub mod RootMarks
+pub mod StageLaws
 pub mod Unread

@@ -1,105 +1,108 @@
 -- Two files have one outcome.
-use Rattle.std.proofs.Common.{◌≡◌, ℕ, List, Ok, Err, None, Some, refl, sym, ◌∙◌, ap, ap₂, subst, arith}
+use Rattle.std.proofs.Common.{◌≡◌, ◌≢◌, ℕ, ◌-◌, List, Ok, Err, None, Some, refl, sym, ◌∙◌, ap, subst, arith}
 use Rattle.std.specs.declared.option.Option.{Option}
 use Rattle.std.specs.declared.result.Result.{Result}
-use Rattle.flat_text.specs.declared.Hypothesis.{Hypothesis}
-use Rattle.flat_text.specs.declared.Step.{Step}
+use Rattle.derivation_graph.specs.Graphs.{IsGraphAnswer}
+use Rattle.derivation_graph.specs.declared.Graph.{Graph}
+use Rattle.derivation_graph.specs.declared.GraphFault.{GraphFault}
+use Rattle.derivation_graph.specs.declared.GraphFault.TheVariants as graph_fault
+use Rattle.dk_syntax.specs.declared.Problem.{Problem}
 use Rattle.flat_steps.specs.declared.Instance.{Instance}
 use Rattle.flat_steps.specs.declared.PlanFault.{PlanFault}
-use Rattle.flat_steps.specs.Plan.{IsPlanOf}
-use Rattle.flat_development.specs.Development.{development_of}
-use Rattle.lp_text.specs.Print.{text_of}
-use Rattle.dk_cli.specs.Outcome.{AreRead, IsOutcome, ProblemAbsent, ProblemTooLong, TraceAbsent, TraceTooLong, ProblemUnbuilt, TraceUnbuilt, Unproved, Converted, refusal_of}
+use Rattle.flat_steps.specs.declared.PlanFault.TheVariants as plan_fault
+use Rattle.tptp_text.specs.Text.{IsReadAnswer}
+use Rattle.tptp_text.specs.declared.Item.{Item}
+use Rattle.tptp_text.specs.declared.TptpFault.{TptpFault}
+use Rattle.tptp_text.specs.declared.TptpFault.TheVariants as text_fault
+use Rattle.tstp_trace.specs.Problems.{IsProblemAnswer}
+use Rattle.tstp_trace.specs.Traces.{IsTraceAnswer}
+use Rattle.tstp_trace.specs.declared.ProblemFault.{ProblemFault}
+use Rattle.tstp_trace.specs.declared.ProblemFault.TheVariants as problem_fault
+use Rattle.tstp_trace.specs.declared.Trace.{Trace}
+use Rattle.tstp_trace.specs.declared.TraceFault.{TraceFault}
+use Rattle.tstp_trace.specs.declared.TraceFault.TheVariants as trace_fault
+use Rattle.dk_cli.specs.Outcome.{ArePlanned, IsBuilt, IsConverted, IsDeveloped, IsFile, IsFlatDeveloped, IsGraphIn, IsOutcome, IsPlanIn, IsProblemIn, IsRootIn, IsText, IsTraceIn, IsWritten, barred, formulas_of, graph_refusal, nodes_of, plan_refusal, problem_refusal, root_told, text_refusal, trace_refusal}
+use Rattle.dk_cli.specs.Stages.{Follows, IsToldBy}
+use Rattle.dk_cli.specs.declared.refusal.File.{File}
+use Rattle.dk_cli.specs.declared.refusal.File.TheVariants as file
 use Rattle.dk_cli.specs.declared.refusal.Refusal.{Refusal}
-use Rattle.flat_text.specs.Forms.{IsProblem, IsTrace, Reads}
-use Rattle.flat_text.specs.Reading.{problem_at, trace_at}
-use Rattle.flat_text.proofs.Told.{problem_told, trace_told}
-use Rattle.flat_steps.proofs.PlanLaws.{one_plan}
+use Rattle.dk_cli.specs.declared.refusal.Refusal.TheVariants as refusal
+use Rattle.dk_cli.proofs.StageLaws.{IsOne, one_of_two, one_told}
+use Rattle.flat_steps.proofs.PlanLaws.{one_answer}
+use Rattle.tptp_text.proofs.TextLaws.{one_reading}
+use Rattle.flat_steps.specs.Verdicts.{places_of}
+use Rattle.dk_cli.proofs.OneAnswer.{one_graph, one_problem, one_root, one_trace}
 
--- what bytes spell is what is found in them
-one_found : {A : Type 0} (Is : List ℕ → List A → Type 0) (bytes : List ℕ) (found : Option (List A)) → Reads Is bytes found
-    → (one other : List A) → Is bytes one → Is bytes other → one ≡ other
-one_found Is bytes None reads one other is so = absurd (reads one is)
-one_found Is bytes (Some items) reads one other is so = reads.1 one is ∙ sym (reads.1 other so)
+-- ---- each stage
 
-one_problem : (bytes : List ℕ) (one other : List Hypothesis) → IsProblem bytes one → IsProblem bytes other → one ≡ other
-one_problem bytes = one_found IsProblem bytes (problem_at bytes) (problem_told bytes)
+one_file : (which : File) (found : Option (List ℕ)) → IsOne refusal.Memory (IsFile which found)
+one_file which None one other h k not_one not_other = h ∙ sym k
+one_file which (Some bytes) (Ok one) (Ok other) h k not_one not_other = ap Ok (h.0 ∙ sym k.0)
+one_file which (Some bytes) (Ok one) (Err (refusal.TooLong file)) h k not_one not_other = let fits = h.1 in let long = k.1 in absurd (omega arith)
+one_file which (Some bytes) (Ok one) (Err why) h k not_one not_other = absurd k
+one_file which (Some bytes) (Err (refusal.TooLong file)) (Ok other) h k not_one not_other = let fits = k.1 in let long = h.1 in absurd (omega arith)
+one_file which (Some bytes) (Err (refusal.TooLong file)) (Err (refusal.TooLong another)) h k not_one not_other = ap (λ f. Err (refusal.TooLong f)) (h.0 ∙ sym k.0)
+one_file which (Some bytes) (Err (refusal.TooLong file)) (Err why) h k not_one not_other = absurd k
+one_file which (Some bytes) (Err why) other h k not_one not_other = absurd h
 
-one_trace : (bytes : List ℕ) (one other : List Step) → IsTrace bytes one → IsTrace bytes other → one ≡ other
-one_trace bytes = one_found IsTrace bytes (trace_at bytes) (trace_told bytes)
+one_text : (which : File) (bytes : List ℕ) → IsOne refusal.Memory (IsText which bytes)
+one_text which bytes = one_told (text_refusal which) text_fault.Memory (λ fault e. ap (text_refusal which) e) (IsReadAnswer bytes) (one_reading bytes)
 
--- two readings of two files are one
-same_plan : (problem trace : List ℕ) (hypotheses others : List Hypothesis) (steps further : List Step) (one other : Result (List Instance) PlanFault)
-    → AreRead problem trace hypotheses steps → AreRead problem trace others further → IsPlanOf hypotheses steps one → IsPlanOf others further other → one ≡ other
-same_plan problem trace hypotheses others steps further one other are so plan another =
-    let first = one_problem problem others hypotheses so.hypotheses_spelled are.hypotheses_spelled in
-    let second = one_trace trace further steps so.steps_spelled are.steps_spelled in
-    one_plan hypotheses steps one other plan (subst (λ h. IsPlanOf h steps other) first (subst (λ s. IsPlanOf others s other) second another))
+one_problem_in : (bytes : List ℕ) → IsOne refusal.Memory (IsProblemIn bytes)
+one_problem_in bytes =
+    one_of_two (IsText file.Problem bytes) (λ items. IsToldBy problem_refusal (IsProblemAnswer items)) (one_text file.Problem bytes)
+    (λ items. one_told problem_refusal problem_fault.Memory (λ fault e. ap problem_refusal e) (IsProblemAnswer items) (one_problem items))
 
--- the reason or the instances that an answer of the plan carries
-abbrev reason_of : PlanFault → Result (List Instance) PlanFault → PlanFault
-reason_of why (Ok instances) = why
-reason_of why (Err other) = other
+one_trace_in : (bytes : List ℕ) → IsOne refusal.Memory (IsTraceIn bytes)
+one_trace_in bytes =
+    one_of_two (IsText file.Trace bytes) (λ items. IsToldBy trace_refusal (IsTraceAnswer items)) (one_text file.Trace bytes)
+    (λ items. one_told trace_refusal trace_fault.Memory (λ fault e. ap trace_refusal e) (IsTraceAnswer items) (one_trace items))
 
-abbrev instances_of : List Instance → Result (List Instance) PlanFault → List Instance
-instances_of instances (Ok others) = others
-instances_of instances (Err why) = instances
+one_graph_in : (trace : Trace) → IsOne refusal.Memory (IsGraphIn trace)
+one_graph_in trace = one_told graph_refusal graph_fault.Memory (λ fault e. ap graph_refusal e) (IsGraphAnswer (nodes_of trace)) (one_graph (nodes_of trace))
 
-same_reason : (one other : PlanFault) → (let x : Result (List Instance) PlanFault = Err one in x) ≡ Err other → one ≡ other
-same_reason one other e = ap (reason_of one) e
+module _ (problem : Problem) (trace : Trace) where
+  one_root_in : IsOne refusal.Memory (IsRootIn problem trace)
+  one_root_in one other (found, h, e) (another, k, d) not_one not_other =
+      e ∙ ap root_told (one_root (formulas_of trace) (barred problem trace) found another h k) ∙ sym d
 
--- the development's text for these hypotheses and instances is one
-same_text : (problem trace : List ℕ) (hypotheses others : List Hypothesis) (steps further : List Step) (one other : List Instance)
-    → AreRead problem trace hypotheses steps → AreRead problem trace others further → IsPlanOf hypotheses steps (Ok one) → IsPlanOf others further (Ok other)
-    → text_of (development_of hypotheses one) ≡ text_of (development_of others other)
-same_text problem trace hypotheses others steps further one other are so plan another =
-    let first = one_problem problem hypotheses others are.hypotheses_spelled so.hypotheses_spelled in
-    let second = same_plan problem trace hypotheses others steps further (Ok one) (Ok other) are so plan another in
-    let same = ap (instances_of one) second in
-    ap₂ (λ h i. text_of (development_of h i)) first same
+  one_built : IsOne refusal.Memory (IsBuilt problem trace)
+  one_built (Ok one) (Ok other) h k not_one not_other = refl
+  one_built (Ok one) (Err (refusal.Unbuilt file.Problem)) h k not_one not_other = absurd (k h.0)
+  one_built (Ok one) (Err (refusal.Unbuilt file.Trace)) h k not_one not_other = absurd (k.1 h.1)
+  one_built (Ok one) (Err why) h k not_one not_other = absurd k
+  one_built (Err (refusal.Unbuilt file.Problem)) (Ok other) h k not_one not_other = absurd (h k.0)
+  one_built (Err (refusal.Unbuilt file.Problem)) (Err (refusal.Unbuilt file.Problem)) h k not_one not_other = refl
+  one_built (Err (refusal.Unbuilt file.Problem)) (Err (refusal.Unbuilt file.Trace)) h k not_one not_other = absurd (h k.0)
+  one_built (Err (refusal.Unbuilt file.Problem)) (Err why) h k not_one not_other = absurd k
+  one_built (Err (refusal.Unbuilt file.Trace)) (Ok other) h k not_one not_other = absurd (h.1 k.1)
+  one_built (Err (refusal.Unbuilt file.Trace)) (Err (refusal.Unbuilt file.Problem)) h k not_one not_other = absurd (k h.0)
+  one_built (Err (refusal.Unbuilt file.Trace)) (Err (refusal.Unbuilt file.Trace)) h k not_one not_other = refl
+  one_built (Err (refusal.Unbuilt file.Trace)) (Err why) h k not_one not_other = absurd k
+  one_built (Err why) other h k not_one not_other = absurd h
+
+  one_plan_in : (graph : Graph) (root : ℕ) → IsOne refusal.Memory (IsPlanIn problem trace graph root)
+  one_plan_in graph root = one_told plan_refusal plan_fault.Memory (λ fault e. ap plan_refusal e) (ArePlanned problem trace graph root) (one_answer problem.hyps trace.steps (places_of graph.parents) (root - 1))
+
+  one_flat : (graph : Graph) (root : ℕ) → IsOne refusal.Memory (IsFlatDeveloped problem trace graph root)
+  one_flat graph root =
+      one_of_two (IsBuilt problem trace) (λ nothing. Follows (IsPlanIn problem trace graph root) (IsWritten problem)) one_built
+      (λ nothing. one_of_two (IsPlanIn problem trace graph root) (IsWritten problem) (one_plan_in graph root) (λ instances one other h k not_one not_other. h ∙ sym k))
+
+  one_developed : IsOne refusal.Memory (IsDeveloped problem trace)
+  one_developed =
+      one_of_two (IsGraphIn trace) (λ graph. Follows (IsRootIn problem trace) (IsFlatDeveloped problem trace graph)) (one_graph_in trace)
+      (λ graph. one_of_two (IsRootIn problem trace) (IsFlatDeveloped problem trace graph) one_root_in (one_flat graph))
+
+-- ---- the whole
+
+one_converted : (problem trace : List ℕ) → IsOne refusal.Memory (IsConverted problem trace)
+one_converted problem trace =
+    one_of_two (IsProblemIn problem) (λ found. Follows (IsTraceIn trace) (IsDeveloped found)) (one_problem_in problem)
+    (λ found. one_of_two (IsTraceIn trace) (IsDeveloped found) (one_trace_in trace) (one_developed found))
 
 pub one_outcome : (problem trace : Option (List ℕ)) (one other : Result (List ℕ) Refusal) → IsOutcome problem trace one → IsOutcome problem trace other → one ≡ other
-one_outcome problem trace one other (ProblemAbsent t) (ProblemAbsent s) = refl
-one_outcome problem trace one other (ProblemTooLong p t l) (ProblemTooLong q s m) = refl
-one_outcome problem trace one other (ProblemTooLong p t l) (TraceAbsent q m) = absurd (omega arith)
-one_outcome problem trace one other (ProblemTooLong p t l) (TraceTooLong q s m n) = absurd (omega arith)
-one_outcome problem trace one other (ProblemTooLong p t l) (ProblemUnbuilt q s m n o) = absurd (omega arith)
-one_outcome problem trace one other (ProblemTooLong p t l) (TraceUnbuilt q s h m n o u) = absurd (omega arith)
-one_outcome problem trace one other (ProblemTooLong p t l) (Unproved q s h ss why are plan) = let m = are.problem_fits in absurd (omega arith)
-one_outcome problem trace one other (ProblemTooLong p t l) (Converted q s h ss is are plan) = let m = are.problem_fits in absurd (omega arith)
-one_outcome problem trace one other (TraceAbsent p f) (ProblemTooLong q s m) = absurd (omega arith)
-one_outcome problem trace one other (TraceAbsent p f) (TraceAbsent q m) = refl
-one_outcome problem trace one other (TraceTooLong p t f l) (ProblemTooLong q s m) = absurd (omega arith)
-one_outcome problem trace one other (TraceTooLong p t f l) (TraceTooLong q s m n) = refl
-one_outcome problem trace one other (TraceTooLong p t f l) (ProblemUnbuilt q s m n o) = absurd (omega arith)
-one_outcome problem trace one other (TraceTooLong p t f l) (TraceUnbuilt q s h m n o u) = absurd (omega arith)
-one_outcome problem trace one other (TraceTooLong p t f l) (Unproved q s h ss why are plan) = let m = are.trace_fits in absurd (omega arith)
-one_outcome problem trace one other (TraceTooLong p t f l) (Converted q s h ss is are plan) = let m = are.trace_fits in absurd (omega arith)
-one_outcome problem trace one other (ProblemUnbuilt p t f g none) (ProblemTooLong q s m) = absurd (omega arith)
-one_outcome problem trace one other (ProblemUnbuilt p t f g none) (TraceTooLong q s m n) = absurd (omega arith)
-one_outcome problem trace one other (ProblemUnbuilt p t f g none) (ProblemUnbuilt q s m n o) = refl
-one_outcome problem trace one other (ProblemUnbuilt p t f g none) (TraceUnbuilt q s h m n o u) = absurd (none h o)
-one_outcome problem trace one other (ProblemUnbuilt p t f g none) (Unproved q s h ss why are plan) = absurd (none h are.hypotheses_spelled)
-one_outcome problem trace one other (ProblemUnbuilt p t f g none) (Converted q s h ss is are plan) = absurd (none h are.hypotheses_spelled)
-one_outcome problem trace one other (TraceUnbuilt p t hs f g is none) (ProblemTooLong q s m) = absurd (omega arith)
-one_outcome problem trace one other (TraceUnbuilt p t hs f g is none) (TraceTooLong q s m n) = absurd (omega arith)
-one_outcome problem trace one other (TraceUnbuilt p t hs f g is none) (ProblemUnbuilt q s m n o) = absurd (o hs is)
-one_outcome problem trace one other (TraceUnbuilt p t hs f g is none) (TraceUnbuilt q s h m n o u) = refl
-one_outcome problem trace one other (TraceUnbuilt p t hs f g is none) (Unproved q s h ss why are plan) = absurd (none ss are.steps_spelled)
-one_outcome problem trace one other (TraceUnbuilt p t hs f g is none) (Converted q s h ss found are plan) = absurd (none ss are.steps_spelled)
-one_outcome problem trace one other (Unproved p t hs ts why are plan) (ProblemTooLong q s m) = let f = are.problem_fits in absurd (omega arith)
-one_outcome problem trace one other (Unproved p t hs ts why are plan) (TraceTooLong q s m n) = let f = are.trace_fits in absurd (omega arith)
-one_outcome problem trace one other (Unproved p t hs ts why are plan) (ProblemUnbuilt q s m n o) = absurd (o hs are.hypotheses_spelled)
-one_outcome problem trace one other (Unproved p t hs ts why are plan) (TraceUnbuilt q s h m n o u) = absurd (u ts are.steps_spelled)
-one_outcome problem trace one other (Unproved p t hs ts why are plan) (Unproved q s h ss because so another) =
-    ap (λ r. Err (refusal_of r)) (same_reason why because (same_plan p t hs h ts ss (Err why) (Err because) are so plan another))
-one_outcome problem trace one other (Unproved p t hs ts why are plan) (Converted q s h ss is so another) =
-    let same = same_plan p t hs h ts ss (Err why) (Ok is) are so plan another in absurd cc
-one_outcome problem trace one other (Converted p t hs ts found are plan) (ProblemTooLong q s m) = let f = are.problem_fits in absurd (omega arith)
-one_outcome problem trace one other (Converted p t hs ts found are plan) (TraceTooLong q s m n) = let f = are.trace_fits in absurd (omega arith)
-one_outcome problem trace one other (Converted p t hs ts found are plan) (ProblemUnbuilt q s m n o) = absurd (o hs are.hypotheses_spelled)
-one_outcome problem trace one other (Converted p t hs ts found are plan) (TraceUnbuilt q s h m n o u) = absurd (u ts are.steps_spelled)
-one_outcome problem trace one other (Converted p t hs ts found are plan) (Unproved q s h ss why so another) =
-    let same = same_plan p t hs h ts ss (Ok found) (Err why) are so plan another in absurd cc
-one_outcome problem trace one other (Converted p t hs ts found are plan) (Converted q s h ss is so another) =
-    ap Ok (same_text p t hs h ts ss found is are so plan another)
+one_outcome problem trace one other h k =
+    one_of_two (IsFile file.Problem problem) (λ first. Follows (IsFile file.Trace trace) (IsConverted first)) (one_file file.Problem problem)
+    (λ first. one_of_two (IsFile file.Trace trace) (IsConverted first) (one_file file.Trace trace) (one_converted first))
+    one other h.given k.given h.memory k.memory

@@ -1,5 +1,5 @@
 -- The answer where one of the two files was not read.
-use Rattle.std.proofs.Common.{◌≡◌, ℕ, ◌<◌, ◌≤◌, ◌⊎◌, List, length, Ok, Err, None, Some, IfErr, inl, inr, refl, sym, ◌∙◌, subst, arith}
+use Rattle.std.proofs.Common.{◌≡◌, ◌≢◌, ℕ, ◌<◌, ◌≤◌, ◌⊎◌, List, length, Ok, Err, None, Some, IfErr, inl, inr, refl, sym, ◌∙◌, subst, arith}
 use Rattle.std.specs.declared.option.Option.{Option}
 use Rattle.std.specs.declared.result.Result.{Result}
 use Rattle.std.specs.declared.vec.Vec.{Vec}
@@ -8,14 +8,14 @@ use Rattle.dk_io.specs.Causes.{Rose}
 use Rattle.dk_io.specs.Outside.{Told, IsAbsent, IsFile, Tells}
 use Rattle.dk_cli.specs.Answer.{AnswersCommand, ComesBeforeWriting, IsMemory, IsReadFault, IsToldOutcome, LacksFile}
 use Rattle.dk_cli.specs.Commands.{Convert}
-use Rattle.dk_cli.specs.Outcome.{IsOutcome, ProblemAbsent, ProblemTooLong, TraceAbsent, TraceTooLong, ProblemUnbuilt, TraceUnbuilt, Unproved, Converted, byte_limit, refusal_of}
-use Rattle.flat_steps.specs.declared.PlanFault.{PlanFault}
-use Rattle.flat_steps.specs.declared.PlanFault.TheVariants as fault
-use Rattle.dk_cli.specs.Steps.{Develops, FileCause, ReadsFile, answer_view}
+use Rattle.dk_cli.specs.Outcome.{IsConverted, IsOutcome, byte_limit}
+use Rattle.dk_cli.specs.Stages.{Answered}
+use Rattle.dk_cli.specs.Steps.{FileCause, ReadsFile, answer_view}
 use Rattle.dk_cli.specs.declared.refusal.Refusal.{Refusal}
-use Rattle.dk_cli.specs.declared.refusal.Refusal.TheVariants.{Words, ReadFault, TooLong, Unbuilt, NoRefutation, Wrong, WriteFault, Memory}
+use Rattle.dk_cli.specs.declared.refusal.Refusal.TheVariants.{ReadFault, TooLong, Memory}
 use Rattle.dk_cli.specs.declared.refusal.File.{File}
 use Rattle.dk_cli.specs.declared.refusal.File.TheVariants.{Problem, Trace}
+use Rattle.dk_cli.proofs.OutcomeLaws.{converted_outcome, is_later, later_before_writing, later_no_read_fault, problem_absent, problem_too_long, trace_absent, trace_too_long}
 
 -- what is told of a file that is there
 there : (told : Told) (name bytes : List ℕ) → Tells told name bytes → IsAbsent told name → ⊥
@@ -26,14 +26,14 @@ there (Some files) name bytes tells absent = cc
 no_problem : (told : Told) (command : Convert) (file : File) → file ≡ Problem → IsAbsent told command.problem → IsToldOutcome told command (Err (ReadFault file))
 no_problem None command file same absent = tt
 no_problem (Some files) command file same absent =
-    rw (absent, same) (ProblemAbsent (files command.trace))
+    rw (absent, same) (problem_absent (files command.trace))
 
 -- a problem over the limit
 module _ (files : List ℕ → Option (List ℕ)) (command : Convert) (present : files command.problem ≡ None → ⊥)
     (long : (bytes : List ℕ) → files command.problem ≡ Some bytes → byte_limit < length bytes) where
   long_problem_at : (found : Option (List ℕ)) → files command.problem ≡ found → IsOutcome found (files command.trace) (Err (TooLong Problem))
   long_problem_at None is = absurd (present is)
-  long_problem_at (Some bytes) is = ProblemTooLong bytes (files command.trace) (long bytes is)
+  long_problem_at (Some bytes) is = problem_too_long bytes (files command.trace) (long bytes is)
 
 long_problem : (told : Told) (command : Convert) (file : File) → file ≡ Problem → (IsAbsent told command.problem → ⊥)
     → ((bytes : List ℕ) → Tells told command.problem bytes → byte_limit < length bytes) → IsToldOutcome told command (Err (TooLong file))
@@ -69,17 +69,13 @@ problem_unread told command before now Memory r = record {
   read_fault = λ h. absurd h;
   refusal = tt;
 }
-problem_unread told command before now Words r = absurd r.cause
-problem_unread told command before now (Unbuilt file) r = absurd r.cause
-problem_unread told command before now NoRefutation r = absurd r.cause
-problem_unread told command before now (Wrong step reason) r = absurd r.cause
-problem_unread told command before now WriteFault r = absurd r.cause
+problem_unread told command before now refusal r = absurd r.cause
 
 -- an absent trace
 no_trace : (told : Told) (command : Convert) (file : File) (problem : List ℕ) → IsFile told command.problem problem → length problem ≤ byte_limit
     → file ≡ Trace → IsAbsent told command.trace → IsToldOutcome told command (Err (ReadFault file))
 no_trace None command file problem is fits same absent = tt
-no_trace (Some files) command file problem is fits same absent = rw (is, absent, same) (TraceAbsent problem fits)
+no_trace (Some files) command file problem is fits same absent = rw (is, absent, same) (trace_absent problem fits)
 
 -- a trace over the limit
 module _ (files : List ℕ → Option (List ℕ)) (command : Convert) (problem : List ℕ) (fits : length problem ≤ byte_limit)
@@ -87,7 +83,7 @@ module _ (files : List ℕ → Option (List ℕ)) (command : Convert) (problem :
     (long : (bytes : List ℕ) → files command.trace ≡ Some bytes → byte_limit < length bytes) where
   long_trace_at : (found : Option (List ℕ)) → files command.trace ≡ found → IsOutcome (Some problem) found (Err (TooLong Trace))
   long_trace_at None is = absurd (present is)
-  long_trace_at (Some bytes) is = TraceTooLong problem bytes fits (long bytes is)
+  long_trace_at (Some bytes) is = trace_too_long problem bytes fits (long bytes is)
 
 long_trace : (told : Told) (command : Convert) (file : File) (problem : List ℕ) → IsFile told command.problem problem → length problem ≤ byte_limit
     → file ≡ Trace → (IsAbsent told command.trace → ⊥)
@@ -141,11 +137,7 @@ trace_unread told command before mid now problem Memory first still is fits r = 
   read_fault = λ h. absurd h;
   refusal = tt;
 }
-trace_unread told command before mid now problem Words first still is fits r = absurd r.cause
-trace_unread told command before mid now problem (Unbuilt file) first still is fits r = absurd r.cause
-trace_unread told command before mid now problem NoRefutation first still is fits r = absurd r.cause
-trace_unread told command before mid now problem (Wrong step reason) first still is fits r = absurd r.cause
-trace_unread told command before mid now problem WriteFault first still is fits r = absurd r.cause
+trace_unread told command before mid now problem refusal first still is fits r = absurd r.cause
 
 -- both files were read, and this is their outcome
 told_outcome : (told : Told) (command : Convert) (problem trace : List ℕ) (answer : Result (List ℕ) Refusal)
@@ -189,65 +181,48 @@ trace_ends told after command before mid now first read answer problem refusal w
     subst (λ given. AnswersCommand told command before now (answer_view given)) (sym is)
     (trace_unread told command before mid now problem.items refusal found.later found.still found.is found.fits ended)
 
--- no outcome is a refusal of words or of writing
-plan_refusal : (why : PlanFault) → ComesBeforeWriting (refusal_of why)
-plan_refusal fault.NoRefutation = tt
-plan_refusal (fault.Wrong step reason) = tt
-plan_refusal fault.Memory = tt
-
-outcome_refusal : (problem trace : Option (List ℕ)) (answer : Result (List ℕ) Refusal) → IsOutcome problem trace answer → IfErr answer ComesBeforeWriting
-outcome_refusal problem trace answer (ProblemAbsent t) = tt
-outcome_refusal problem trace answer (ProblemTooLong p t l) = tt
-outcome_refusal problem trace answer (TraceAbsent p f) = tt
-outcome_refusal problem trace answer (TraceTooLong p t f l) = tt
-outcome_refusal problem trace answer (ProblemUnbuilt p t f g none) = tt
-outcome_refusal problem trace answer (TraceUnbuilt p t hs f g is none) = tt
-outcome_refusal problem trace answer (Unproved p t hs ts why are plan) = plan_refusal why
-outcome_refusal problem trace answer (Converted p t hs ts found are plan) = tt
-
--- no outcome of files that are there is a read fault
-module _ (problem trace : List ℕ) where
-  no_read_fault : (found other : Option (List ℕ)) (answer : Result (List ℕ) Refusal) → found ≡ Some problem → other ≡ Some trace
-      → IsOutcome found other answer → IsReadFault answer → ⊥
-  no_read_fault found other answer e d (ProblemAbsent t) h = cc
-  no_read_fault found other answer e d (ProblemTooLong p t l) h = h
-  no_read_fault found other answer e d (TraceAbsent p f) h = cc
-  no_read_fault found other answer e d (TraceTooLong p t f l) h = h
-  no_read_fault found other answer e d (ProblemUnbuilt p t f g none) h = h
-  no_read_fault found other answer e d (TraceUnbuilt p t hs f g is none) h = h
-  no_read_fault found other answer e d (Unproved p t hs ts fault.NoRefutation are plan) h = h
-  no_read_fault found other answer e d (Unproved p t hs ts (fault.Wrong step reason) are plan) h = h
-  no_read_fault found other answer e d (Unproved p t hs ts fault.Memory are plan) h = h
-  no_read_fault found other answer e d (Converted p t hs ts found' are plan) h = h
-
 -- the command's answer where both files were read
 module _ (told : Told) (command : Convert) (before now : ℕ) (problem trace : List ℕ)
     (later : before ≤ now) (still : before < now → ⊥) (p : IsFile told command.problem problem) (fits : length problem ≤ byte_limit)
-    (t : IsFile told command.trace trace) where
-  answers_outcome : (answer : Result (List ℕ) Refusal) → IsOutcome (Some problem) (Some trace) answer → AnswersCommand told command before now answer
-  answers_outcome answer outcome = record {
+    (t : IsFile told command.trace trace) (trace_fits : length trace ≤ byte_limit) where
+  answers_outcome : (answer : Result (List ℕ) Refusal) → answer ≢ Err Memory → IsConverted problem trace answer → AnswersCommand told command before now answer
+  answers_outcome answer memory given = record {
     later = later;
     rose = λ h. absurd (still h);
     lacks = λ h. absurd (read_is_there told command.trace trace t (lacks_trace told command problem p h));
-    outcome = inr (inr (told_outcome told command problem trace answer p t outcome));
-    read_fault = λ h. absurd (no_read_fault problem trace (Some problem) (Some trace) answer refl refl outcome h);
-    refusal = outcome_refusal (Some problem) (Some trace) answer outcome;
+    outcome = inr (inr (told_outcome told command problem trace answer p t (converted_outcome problem trace answer fits trace_fits given memory)));
+    read_fault = λ h. absurd (later_no_read_fault answer (is_later problem trace answer given) h);
+    refusal = later_before_writing answer (is_later problem trace answer given);
   }
 
-  pub answers_developed : (result : Result (Vec ℕ Global) Refusal) → Develops problem trace result → AnswersCommand told command before now (answer_view result)
-  answers_developed (Ok text) d = answers_outcome (Ok text.items) d
-  answers_developed (Err Memory) d = record {
+  pub answers_converted : (answer : Result (List ℕ) Refusal) → Answered (IsConverted problem trace) answer → AnswersCommand told command before now answer
+  answers_converted (Ok text) h = answers_outcome (Ok text) (λ e. cc) h
+  answers_converted (Err Memory) h = record {
     later = later;
-    rose = λ h. absurd (still h);
-    lacks = λ h. inr tt;
+    rose = λ e. absurd (still e);
+    lacks = λ e. inr tt;
     outcome = inr (inl tt);
-    read_fault = λ h. absurd h;
+    read_fault = λ e. absurd e;
     refusal = tt;
   }
-  answers_developed (Err Words) d = answers_outcome (Err Words) d
-  answers_developed (Err (ReadFault file)) d = answers_outcome (Err (ReadFault file)) d
-  answers_developed (Err (TooLong file)) d = answers_outcome (Err (TooLong file)) d
-  answers_developed (Err (Unbuilt file)) d = answers_outcome (Err (Unbuilt file)) d
-  answers_developed (Err NoRefutation) d = answers_outcome (Err NoRefutation) d
-  answers_developed (Err (Wrong step reason)) d = answers_outcome (Err (Wrong step reason)) d
-  answers_developed (Err WriteFault) d = answers_outcome (Err WriteFault) d
+  answers_converted (Err refusal) h = answers_outcome (Err refusal) (λ e. cc) h
+
+-- a count that didn't rise
+at_most : (before now : ℕ) → (before < now → ⊥) → now ≤ before
+at_most before now still = omega arith
+
+-- the command's answer where both files were read, from what the calls say
+pub converted_ends : (told after : Told) (command : Convert) (before mid now : ℕ) (first second : Result (Vec ℕ Global) Refusal) (problem trace : Vec ℕ Global) (answer : Result (List ℕ) Refusal)
+    → first ≡ Ok problem → ReadsFile told command.problem Problem before mid first → after ≡ told
+    → second ≡ Ok trace → ReadsFile after command.trace Trace mid now second
+    → Answered (IsConverted problem.items trace.items) answer → AnswersCommand told command before now answer
+converted_ends told after command before mid now first second problem trace answer whole reads same also rest h =
+    let found = read_whole told command.problem Problem before mid first problem whole reads in
+    let next = read_whole told command.trace Trace mid now second trace also (subst (λ t. ReadsFile t command.trace Trace mid now second) same rest) in
+    answers_converted told command before now problem.items trace.items (join found.later next.later) (still found next) found.is found.fits next.is next.fits answer h
+  where
+    join : before ≤ mid → mid ≤ now → before ≤ now
+    join i j = omega arith
+
+    still : IsReadWhole told command.problem before mid problem.items → IsReadWhole told command.trace mid now trace.items → before < now → ⊥
+    still i j h = let a = i.later in let b = j.later in let c : mid ≤ before = at_most before mid i.still in let d : now ≤ mid = at_most mid now j.still in absurd (omega arith)

@@ -5,7 +5,7 @@ use Rattle.std.specs.declared.result.Result.{Result}
 use Rattle.std.specs.Io.KnownBytes.{Appends, Keeps}
 use Rattle.dk_io.specs.Causes.{Rose}
 use Rattle.dk_io.specs.Outside.{AppendsFront}
-use Rattle.dk_cli.specs.Refusals.{status_of, line_of, NamesStep}
+use Rattle.dk_cli.specs.Refusals.{status_of, line_of, HasNumber}
 use Rattle.dk_cli.specs.declared.refusal.Refusal.{Refusal}
 use Rattle.dk_cli.specs.declared.refusal.Refusal.TheVariants.{WriteFault, Memory}
 use Rattle.dk_cli.specs.declared.refusal.Status.{Status}
@@ -47,8 +47,8 @@ pub record IsCut (text : List ℕ) (result : Status) (out notes : Change) : Type
   pub later : out.before ≤ out.now
   pub refused : IsRefused WriteFault result notes
 
--- A text is written whole or cut; a refusal is told, and the sink is left alone. A line that names a
--- step takes memory, and where there is none the status says so.
+-- A text is written whole or cut; a refusal is told, and the sink is left alone. A line that has
+-- a number takes memory, and where there is none the status says so.
 abbrev pub Delivers : Result (List ℕ) Refusal → Status → Change → Change → Type 0
 Delivers (Ok text) result out notes = IsWritten text result out notes ⊎ IsCut text result out notes
-Delivers (Err refusal) result out notes = IsUntouched out × (IsRefused refusal result notes ⊎ (NamesStep refusal × IsRefused Memory result notes))
+Delivers (Err refusal) result out notes = IsUntouched out × (IsRefused refusal result notes ⊎ (HasNumber refusal × IsRefused Memory result notes))

@@ -23,9 +23,8 @@ abbrev pub Lacks : Told → Option Convert → Type 0
 Lacks told None = ⊥
 Lacks told (Some command) = LacksFile told command
 
--- The statuses that can come: neither that of a text that is not TPTP nor that of a file that is not typed.
+-- The statuses that can come: not that of a file that is not typed.
 abbrev pub CanCome : Status → Type 0
-CanCome status.Text = ⊥
 CanCome status.IllTyped = ⊥
 CanCome result = Unit {0}
 

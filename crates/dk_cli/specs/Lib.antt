@@ -5,4 +5,5 @@ pub mod Headline
 pub mod Outcome
 pub mod Proof
 pub mod Refusals
+pub mod Stages
 pub mod Steps

@@ -1,21 +1,34 @@
 -- How a refusal is told: its status and its line.
-use Rattle.std.specs.Prelude.{ℕ, ◌+◌, List, ◌++◌, codes, decimal, encode_utf8_all}
+use Rattle.std.specs.Prelude.{ℕ, List, ◌++◌, codes, decimal, encode_utf8_all}
 use Rattle.flat_steps.specs.declared.Reason.{Reason}
-use Rattle.flat_steps.specs.declared.Reason.TheVariants.{UnknownLeaf, AlteredLeaf, AlienSymbol, Unjustified}
-use Rattle.dk_cli.specs.declared.refusal.Refusal.{Refusal}
-use Rattle.dk_cli.specs.declared.refusal.Refusal.TheVariants.{Words, ReadFault, TooLong, Unbuilt, NoRefutation, Wrong, WriteFault, Memory}
+use Rattle.flat_steps.specs.declared.Reason.TheVariants as reason
+use Rattle.tptp_text.specs.Printed.{printed_item_name, printed_name}
+use Rattle.tptp_text.specs.declared.OutsideKind.{OutsideKind}
+use Rattle.tptp_text.specs.declared.OutsideKind.TheVariants as kind
+use Rattle.tstp_trace.specs.declared.Unsupported.{Unsupported}
+use Rattle.tstp_trace.specs.declared.Unsupported.TheVariants as unsupported
 use Rattle.dk_cli.specs.declared.refusal.File.{File}
 use Rattle.dk_cli.specs.declared.refusal.File.TheVariants.{Problem, Trace}
+use Rattle.dk_cli.specs.declared.refusal.ItemFault.{ItemFault}
+use Rattle.dk_cli.specs.declared.refusal.ItemFault.TheVariants as item_fault
+use Rattle.dk_cli.specs.declared.refusal.Refusal.{Refusal}
+use Rattle.dk_cli.specs.declared.refusal.Refusal.TheVariants.{Words, ReadFault, TooLong, NotTptp, TooDeep, TooManyItems, Item, Step, NoRefutation, Unbuilt, WriteFault, Memory}
 use Rattle.dk_cli.specs.declared.refusal.Status.{Status}
 use Rattle.dk_cli.specs.declared.refusal.Status.TheVariants as status
+use Rattle.dk_cli.specs.declared.refusal.StepFault.{StepFault}
+use Rattle.dk_cli.specs.declared.refusal.StepFault.TheVariants as step_fault
 
 abbrev pub status_of : Refusal → Status
 status_of Words = status.Words
 status_of (ReadFault file) = status.ReadFault
 status_of (TooLong file) = status.Limit
-status_of (Unbuilt file) = status.Unbuilt
+status_of (NotTptp file at) = status.Text
+status_of (TooDeep file at) = status.Limit
+status_of (TooManyItems file) = status.Limit
+status_of (Item item fault) = status.Input
+status_of (Step step fault) = status.Input
 status_of NoRefutation = status.Input
-status_of (Wrong step reason) = status.Input
+status_of (Unbuilt file) = status.Unbuilt
 status_of WriteFault = status.WriteFault
 status_of Memory = status.Memory
 
@@ -23,25 +36,67 @@ abbrev pub file_word : File → List ℕ
 file_word Problem = codes "problem"
 file_word Trace = codes "trace"
 
--- A symbol is told by its name: each byte is a character, and a word's bytes are ASCII.
-abbrev pub reason_text : Reason → List ℕ
-reason_text UnknownLeaf = codes "unknown leaf"
-reason_text AlteredLeaf = codes "altered leaf"
-reason_text (AlienSymbol name) = codes "alien symbol: " ++ encode_utf8_all name
-reason_text Unjustified = codes "unjustified clause 0"
+abbrev pub kind_word : OutsideKind → List ℕ
+kind_word kind.Include = codes "include"
+kind_word kind.Language = codes "language"
+kind_word kind.Equality = codes "equality"
+kind_word kind.Number = codes "number"
+kind_word kind.Distinct = codes "distinct object"
+kind_word kind.Dollar = codes "dollar word"
 
--- The line of a refusal, without its newline. Steps are told by their numbers, which count from 1.
+abbrev pub unsupported_word : Unsupported → List ℕ
+unsupported_word unsupported.Word = codes "word"
+unsupported_word unsupported.Status = codes "status"
+unsupported_word unsupported.NoParent = codes "no parent"
+unsupported_word unsupported.ManyParents = codes "many parents"
+unsupported_word unsupported.Mixed = codes "mixed"
+
+-- A text in a line: each byte is a character. Names are printed in ASCII, so these are their bytes.
+abbrev pub in_line : List ℕ → List ℕ
+in_line text = encode_utf8_all text
+
+-- a symbol is told by its name alone
+abbrev pub reason_text : Reason → List ℕ
+reason_text reason.UnknownLeaf = codes "unknown leaf"
+reason_text reason.AlteredLeaf = codes "altered leaf"
+reason_text (reason.AlienSymbol name) = codes "alien symbol: " ++ in_line (printed_name name)
+reason_text reason.Unjustified = codes "unjustified clause 0"
+
+-- a free variable is told as it is
+abbrev pub item_fault_text : ItemFault → List ℕ
+item_fault_text (item_fault.Outside kind) = codes "outside: " ++ kind_word kind
+item_fault_text item_fault.BadRole = codes "bad role"
+item_fault_text (item_fault.FreeVariable name) = codes "free variable: " ++ in_line name
+item_fault_text item_fault.DuplicateName = codes "duplicate name"
+item_fault_text item_fault.SecondConjecture = codes "second conjecture"
+
+abbrev pub step_fault_text : StepFault → List ℕ
+step_fault_text (step_fault.Outside kind) = codes "outside: " ++ kind_word kind
+step_fault_text step_fault.DuplicateName = codes "duplicate name"
+step_fault_text (step_fault.Unsupported why) = codes "unsupported: " ++ unsupported_word why
+step_fault_text (step_fault.MissingParent name) = codes "missing parent: " ++ in_line (printed_item_name name)
+step_fault_text step_fault.Cycle = codes "cycle"
+step_fault_text (step_fault.Wrong why) = codes "wrong: " ++ reason_text why
+
+-- The line of a refusal, without its newline. Items and steps count from 1, bytes from 0.
 abbrev pub line_of : Refusal → List ℕ
 line_of Words = codes "words: see --help"
 line_of (ReadFault file) = codes "read fault: " ++ file_word file
 line_of (TooLong file) = codes "too long: " ++ file_word file
-line_of (Unbuilt file) = codes "not built: " ++ file_word file
+line_of (NotTptp file at) = codes "not TPTP: " ++ file_word file ++ codes " at byte " ++ decimal at
+line_of (TooDeep file at) = codes "too deep: " ++ file_word file ++ codes " at byte " ++ decimal at
+line_of (TooManyItems file) = codes "too many items: " ++ file_word file
+line_of (Item item fault) = codes "problem item " ++ decimal item ++ codes ": " ++ item_fault_text fault
+line_of (Step step fault) = codes "step " ++ decimal step ++ codes ": " ++ step_fault_text fault
 line_of NoRefutation = codes "no refutation"
-line_of (Wrong step reason) = codes "step " ++ decimal (step + 1) ++ codes ": wrong: " ++ reason_text reason
+line_of (Unbuilt file) = codes "not built: " ++ file_word file
 line_of WriteFault = codes "write fault"
 line_of Memory = codes "out of memory"
 
--- The line names a step, so it takes memory.
-abbrev pub NamesStep : Refusal → Type 0
-NamesStep (Wrong step reason) = Unit {0}
-NamesStep refusal = ⊥
+-- The line has a number, so it takes memory.
+abbrev pub HasNumber : Refusal → Type 0
+HasNumber (NotTptp file at) = Unit {0}
+HasNumber (TooDeep file at) = Unit {0}
+HasNumber (Item item fault) = Unit {0}
+HasNumber (Step step fault) = Unit {0}
+HasNumber refusal = ⊥

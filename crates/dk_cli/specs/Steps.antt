@@ -1,22 +1,19 @@
 -- What the parts of a command answer.
-use Rattle.std.specs.Prelude.{◌≡◌, ℕ, ◌<◌, ◌≤◌, ◌⊎◌, List, length, None, Some, Ok, Err, IfOk, IfErr}
+use Rattle.std.specs.Prelude.{◌≡◌, ℕ, ◌<◌, ◌≤◌, ◌⊎◌, List, length, None, Some, Ok, Err, IfOk, IfErr, map, if◌then◌else◌}
 use Rattle.std.specs.declared.option.Option.{Option}
 use Rattle.std.specs.declared.result.Result.{Result}
 use Rattle.std.specs.declared.vec.Vec.{Vec}
 use Rattle.std.specs.declared.alloc.Global.{Global}
 use Rattle.dk_io.specs.Causes.{Rose}
 use Rattle.dk_io.specs.Outside.{Told, IsAbsent, IsFile, Tells}
-use Rattle.flat_text.specs.declared.Hypothesis.{Hypothesis}
-use Rattle.flat_text.specs.declared.Step.{Step}
-use Rattle.flat_steps.specs.declared.Instance.{Instance}
-use Rattle.flat_steps.specs.declared.PlanFault.TheVariants as fault
-use Rattle.flat_steps.specs.Plan.{IsPlanOf}
-use Rattle.flat_development.specs.Development.{development_of}
-use Rattle.lp_text.specs.Print.{text_of}
+use Rattle.dk_syntax.specs.declared.Formula.{Formula}
+use Rattle.dk_syntax.specs.declared.Formula.TheVariants.{False, True}
+use Rattle.flat_form.specs.Flat.{is_false}
+use Rattle.tstp_trace.specs.declared.Trace.{Trace}
 use Rattle.dk_cli.specs.Commands.{Convert}
-use Rattle.dk_cli.specs.Outcome.{IsOutcome, byte_limit}
+use Rattle.dk_cli.specs.Outcome.{byte_limit}
 use Rattle.dk_cli.specs.declared.refusal.Refusal.{Refusal}
-use Rattle.dk_cli.specs.declared.refusal.Refusal.TheVariants.{ReadFault, TooLong, NoRefutation, Wrong, Memory}
+use Rattle.dk_cli.specs.declared.refusal.Refusal.TheVariants.{ReadFault, TooLong, Memory}
 use Rattle.dk_cli.specs.declared.refusal.File.{File}
 use Rattle.dk_cli.specs.declared.answer.Names.{Names}
 
@@ -42,21 +39,9 @@ pub record ReadsFile (told : Told) (name : List ℕ) (file : File) (before now :
   pub absent : IsAbsent told name → result ≡ Err (ReadFault file)
   pub cause : IfErr result (λ refusal. FileCause told name file before now refusal)
 
--- What was made of two files within the limit is their outcome, unless memory ran out.
-abbrev pub Develops : List ℕ → List ℕ → Result (Vec ℕ Global) Refusal → Type 0
-Develops problem trace (Err Memory) = Unit {0}
-Develops problem trace result = IsOutcome (Some problem) (Some trace) (answer_view result)
+-- the formula as far as the root is concerned: `$false`, or another one
+abbrev pub mark_of : Formula → Formula
+mark_of formula = if is_false formula then False else True
 
--- What was written of these hypotheses and instances is the text of their development.
-abbrev pub Writes : List Hypothesis → List Instance → Result (Vec ℕ Global) Refusal → Type 0
-Writes hypotheses instances (Ok text) = text.items ≡ text_of (development_of hypotheses instances)
-Writes hypotheses instances (Err Memory) = Unit {0}
-Writes hypotheses instances (Err refusal) = ⊥
-
--- What was written of these hypotheses and steps is the text of the plan's development, or why there is no plan.
-abbrev pub Proves : List Hypothesis → List Step → Result (Vec ℕ Global) Refusal → Type 0
-Proves hypotheses steps (Ok text) = (instances : List Instance) × IsPlanOf hypotheses steps (Ok instances) × (text.items ≡ text_of (development_of hypotheses instances))
-Proves hypotheses steps (Err NoRefutation) = IsPlanOf hypotheses steps (Err fault.NoRefutation)
-Proves hypotheses steps (Err (Wrong step reason)) = IsPlanOf hypotheses steps (Err (fault.Wrong step reason))
-Proves hypotheses steps (Err Memory) = Unit {0}
-Proves hypotheses steps (Err refusal) = ⊥
+abbrev pub marks_of : Trace → List Formula
+marks_of trace = map (λ step. mark_of step.formula) trace.steps

@@ -3,16 +3,11 @@ ghost use Rattle.std.specs.Prelude.{◌≡◌, ◌≤◌, ◌<◌, ◌↔◌, No
 ghost use Rattle.std.specs.Option.{option_map};
 ghost use Rattle.dk_cli.specs.Answer.{Answers, AnswersCommand};
 ghost use Rattle.dk_cli.specs.Commands.{texts, command_of, is_file_name};
-ghost use Rattle.dk_cli.specs.Outcome.{byte_limit};
-ghost use Rattle.dk_cli.specs.Steps.{ReadsFile, Develops, Proves, Writes, answer_view, command_view};
-ghost use Rattle.flat_text.specs.Items.{HasEarlierParents};
+ghost use Rattle.dk_cli.specs.Steps.{ReadsFile, answer_view, command_view};
 
+use crate::conversion::converted;
 use crate::{File, Refusal};
 use dk_io::{Inputs, ReadAll, read_all};
-use flat_development::development;
-use flat_steps::{Instance, PlanFault, make_plan};
-use flat_text::{Hypothesis, Step, read_problem, read_trace};
-use lp_text::print;
 use std::alloc::Global;
 
 /// The names of the two files.
@@ -67,65 +62,13 @@ fn read_file<I: Inputs>(
     }
 }
 
-/// The text of a problem and a trace, each within the limit.
-fn develop(alloc: Global, problem: &[u8], trace: &[u8]) -> Result<Vec<u8>, Refusal>
-    requires problem { length problem.now ≤ byte_limit }
-    requires trace { length trace.now ≤ byte_limit }
-    ensures { Develops problem.now trace.now result }
-{
-    let Ok(hypotheses) = read_problem(alloc, problem) else {
-        return Err(Refusal::Memory);
-    };
-    let Ok(steps) = read_trace(alloc, trace) else {
-        return Err(Refusal::Memory);
-    };
-    let Some(hypotheses) = hypotheses else {
-        return Err(Refusal::Unbuilt(File::Problem));
-    };
-    let Some(steps) = steps else {
-        return Err(Refusal::Unbuilt(File::Trace));
-    };
-    planned(alloc, hypotheses.as_slice(), steps.as_slice())
-}
-
-/// The text that the steps prove of the hypotheses.
-fn planned(alloc: Global, hypotheses: &[Hypothesis], steps: &[Step]) -> Result<Vec<u8>, Refusal>
-    requires few { length steps.now ≤ 10000 }
-    requires earlier { HasEarlierParents steps.now }
-    ensures { Proves hypotheses.now steps.now result }
-{
-    match make_plan(alloc, hypotheses, steps) {
-        Ok(instances) => written(alloc, hypotheses, instances.as_slice()),
-        Err(PlanFault::NoRefutation) => Err(Refusal::NoRefutation),
-        Err(PlanFault::Wrong { step, reason }) => Err(Refusal::Wrong { step, reason }),
-        Err(PlanFault::Memory) => Err(Refusal::Memory),
-    }
-}
-
-/// The text of the development of these instances.
-fn written(
-    alloc: Global,
-    hypotheses: &[Hypothesis],
-    instances: &[Instance],
-) -> Result<Vec<u8>, Refusal>
-    ensures { Writes hypotheses.now instances.now result }
-{
-    let Ok(made) = development(alloc, hypotheses, instances) else {
-        return Err(Refusal::Memory);
-    };
-    match print(alloc, &made) {
-        Ok(text) => Ok(text),
-        Err(_) => Err(Refusal::Memory),
-    }
-}
-
 fn convert<I: Inputs>(alloc: Global, inputs: &mut I, names: Names<'_>) -> Result<Vec<u8>, Refusal>
     ensures same { I.told inputs.new ≡ I.told inputs.old }
     ensures answers { AnswersCommand (I.told inputs.old) (command_view names.entry) (I.faults inputs.old) (I.faults inputs.new) (answer_view result) }
 {
     let problem = read_file(alloc, inputs, names.problem, File::Problem)?;
     let trace = read_file(alloc, inputs, names.trace, File::Trace)?;
-    develop(alloc, &problem, &trace)
+    converted(alloc, &problem, &trace)
 }
 
 /// The answer to the words, over these inputs.

@@ -8,11 +8,14 @@
 #![tactic(auto)]
 
 mod answer;
+mod conversion;
+mod derivation;
+mod lines;
 mod refusal;
 mod run;
 
 use dk_io::{ErrNotes, FileInputs, NoGate, OutSink};
-pub use refusal::{File, Refusal, Status};
+pub use refusal::{File, ItemFault, Refusal, Status, StepFault};
 use run::refuse;
 pub use run::run;
 use std::alloc::AllocError;

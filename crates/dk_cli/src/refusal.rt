@@ -1,10 +1,14 @@
 //! Why nothing, or not all, was written, and the status and the line that say so.
-ghost use Rattle.std.specs.Prelude.{◌≡◌, ◌++◌, IfOk, IfSome, IfNone, string_bytes, codes, encode_utf8_all};
-ghost use Rattle.dk_cli.specs.Refusals.{status_of, line_of, file_word, reason_text, NamesStep};
+ghost use Rattle.std.specs.Prelude.{◌≡◌, ◌++◌, IfOk, IfSome, IfNone, string_bytes, codes, decimal};
+ghost use Rattle.dk_cli.specs.Refusals.{status_of, line_of, file_word, HasNumber};
 
+use crate::lines::{item_fault_line, numbered_line, step_fault_line};
+use dk_syntax::{Name, NoMemory};
 use flat_steps::Reason;
 use itoa::Buffer;
 use std::alloc::{AllocError, Global};
+use tptp_text::OutsideKind;
+use tstp_trace::Unsupported;
 
 /// How the program ends.
 #[repr(u8)]
@@ -19,7 +23,7 @@ pub enum Status {
     WriteFault = 6,
     Memory = 7,
     IllTyped = 8,
-    /// Interim: the file is of a form that isn't built yet.
+    /// Interim: the problem or the trace is not built yet.
     Unbuilt = 9,
 }
 
@@ -28,6 +32,27 @@ pub enum Status {
 pub enum File {
     Problem,
     Trace,
+}
+
+/// What is at fault in an item of the problem.
+#[derive(Debug, Drop)]
+pub enum ItemFault {
+    Outside(OutsideKind),
+    BadRole,
+    FreeVariable(Name),
+    DuplicateName,
+    SecondConjecture,
+}
+
+/// What is at fault in a step of the trace.
+#[derive(Debug, Drop)]
+pub enum StepFault {
+    Outside(OutsideKind),
+    DuplicateName,
+    Unsupported(Unsupported),
+    MissingParent(Name),
+    Cycle,
+    Wrong(Reason),
 }
 
 /// The refusals, in the order in which they are looked for.
@@ -39,12 +64,20 @@ pub enum Refusal {
     ReadFault(File),
     /// The file has more bytes than the limit.
     TooLong(File),
-    /// Interim: the file isn't of the propositional form.
-    Unbuilt(File),
-    /// No step is the empty clause.
+    /// No item begins at the byte, which is counted from 0.
+    NotTptp { file: File, at: u64 },
+    /// The item that begins at the byte is nested too deep.
+    TooDeep { file: File, at: u64 },
+    /// The file has more items than the limit.
+    TooManyItems(File),
+    /// The first item at fault of the problem, counted from 1.
+    Item { item: u32, fault: ItemFault },
+    /// The first step at fault, counted from 1.
+    Step { step: u32, fault: StepFault },
+    /// No step that may be the root has the formula `$false`.
     NoRefutation,
-    /// The first wrong step, by its place counted from 0.
-    Wrong { step: u32, reason: Reason },
+    /// Interim: the problem or the trace is right so far, and not built yet.
+    Unbuilt(File),
     /// Writing failed.
     WriteFault,
     /// There was no memory.
@@ -69,18 +102,21 @@ impl Refusal {
         match self {
             Refusal::Words => Status::Words,
             Refusal::ReadFault(_) => Status::ReadFault,
-            Refusal::TooLong(_) => Status::Limit,
+            Refusal::NotTptp { .. } => Status::Text,
+            Refusal::TooLong(_) | Refusal::TooDeep { .. } | Refusal::TooManyItems(_) => {
+                Status::Limit
+            }
+            Refusal::Item { .. } | Refusal::Step { .. } | Refusal::NoRefutation => Status::Input,
             Refusal::Unbuilt(_) => Status::Unbuilt,
-            Refusal::NoRefutation | Refusal::Wrong { .. } => Status::Input,
             Refusal::WriteFault => Status::WriteFault,
             Refusal::Memory => Status::Memory,
         }
     }
 
-    /// The line of a refusal that names no step. It takes no memory.
+    /// The line of a refusal that has no number. It takes no memory.
     pub fn fixed_line(&self) -> Option<&'static str>
         ensures line { IfSome result (λ line. line.now ≡ line_of self.now) }
-        ensures none { IfNone result (NamesStep self.now) }
+        ensures none { IfNone result (HasNumber self.now) }
     {
         match self {
             Refusal::Words => Some("words: see --help"),
@@ -88,12 +124,17 @@ impl Refusal {
             Refusal::ReadFault(File::Trace) => Some("read fault: trace"),
             Refusal::TooLong(File::Problem) => Some("too long: problem"),
             Refusal::TooLong(File::Trace) => Some("too long: trace"),
+            Refusal::TooManyItems(File::Problem) => Some("too many items: problem"),
+            Refusal::TooManyItems(File::Trace) => Some("too many items: trace"),
+            Refusal::NoRefutation => Some("no refutation"),
             Refusal::Unbuilt(File::Problem) => Some("not built: problem"),
             Refusal::Unbuilt(File::Trace) => Some("not built: trace"),
-            Refusal::NoRefutation => Some("no refutation"),
-            Refusal::Wrong { .. } => None,
             Refusal::WriteFault => Some("write fault"),
             Refusal::Memory => Some("out of memory"),
+            Refusal::NotTptp { .. }
+            | Refusal::TooDeep { .. }
+            | Refusal::Item { .. }
+            | Refusal::Step { .. } => None,
         }
     }
 
@@ -102,10 +143,20 @@ impl Refusal {
         ensures { IfOk result (λ line. string_bytes line ≡ line_of self.now) }
     {
         match self {
-            Refusal::Wrong { step, reason } => step_line(alloc, *step, reason),
-            Refusal::ReadFault(file) => format!(in alloc; "read fault: {}", file.word()),
-            Refusal::TooLong(file) => format!(in alloc; "too long: {}", file.word()),
-            Refusal::Unbuilt(file) => format!(in alloc; "not built: {}", file.word()),
+            Refusal::NotTptp { file, at } => place_line(alloc, "not TPTP: ", *file, *at),
+            Refusal::TooDeep { file, at } => place_line(alloc, "too deep: ", *file, *at),
+            Refusal::Item { item, fault } => {
+                let why = item_fault_line(alloc, fault)?;
+                numbered_line(alloc, "problem item ", *item, why.as_str())
+            }
+            Refusal::Step { step, fault } => {
+                let why = step_fault_line(alloc, fault)?;
+                numbered_line(alloc, "step ", *step, why.as_str())
+            }
+            Refusal::ReadFault(file) => file_line(alloc, "read fault: ", *file),
+            Refusal::TooLong(file) => file_line(alloc, "too long: ", *file),
+            Refusal::TooManyItems(file) => file_line(alloc, "too many items: ", *file),
+            Refusal::Unbuilt(file) => file_line(alloc, "not built: ", *file),
             Refusal::Words => String::from_str(alloc, "words: see --help"),
             Refusal::NoRefutation => String::from_str(alloc, "no refutation"),
             Refusal::WriteFault => String::from_str(alloc, "write fault"),
@@ -114,35 +165,33 @@ impl Refusal {
     }
 }
 
-fn step_line(alloc: Global, step: u32, reason: &Reason) -> Result<String, AllocError>
-    ensures { IfOk result (λ line. string_bytes line ≡ line_of (Refusal.Wrong step reason.now)) }
+/// A line that ends in the word for a file.
+fn file_line(alloc: Global, front: &str, file: File) -> Result<String, AllocError>
+    ensures { IfOk result (λ line. string_bytes line ≡ front.now ++ file_word file) }
 {
-    let why = reason_line(alloc, reason)?;
+    let mut line = String::from_str(alloc, front)?;
+    line.push_str(file.word())?;
+    Ok(line)
+}
+
+/// A line that ends in a place of a file.
+fn place_line(alloc: Global, front: &str, file: File, at: u64) -> Result<String, AllocError>
+    ensures { IfOk result (λ line. string_bytes line ≡ front.now ++ file_word file ++ codes " at byte " ++ decimal at) }
+{
     let mut number = Buffer::new();
-    let mut line = String::from_str(alloc, "step ")?;
-    line.push_str(number.format(u64::from(step) + 1))?;
-    line.push_str(": wrong: ")?;
-    line.push_str(why.as_str())?;
+    let mut line = file_line(alloc, front, file)?;
+    line.push_str(" at byte ")?;
+    line.push_str(number.format(at))?;
     Ok(line)
 }
 
-fn reason_line(alloc: Global, reason: &Reason) -> Result<String, AllocError>
-    ensures { IfOk result (λ line. string_bytes line ≡ reason_text reason.now) }
-{
-    match reason {
-        Reason::UnknownLeaf => String::from_str(alloc, "unknown leaf"),
-        Reason::AlteredLeaf => String::from_str(alloc, "altered leaf"),
-        Reason::AlienSymbol(name) => alien_line(alloc, name.as_bytes()),
-        Reason::Unjustified => String::from_str(alloc, "unjustified clause 0"),
-    }
-}
+impl From<NoMemory> for Refusal {
+    ghost use Rattle.std.specs.Prelude.{◌≡◌};
+    ghost use Rattle.dk_cli.specs.declared.refusal.Refusal.TheVariants.{Memory};
 
-fn alien_line(alloc: Global, name: &[u8]) -> Result<String, AllocError>
-    ensures { IfOk result (λ line. string_bytes line ≡ codes "alien symbol: " ++ encode_utf8_all name.now) }
-{
-    let mut line = String::from_str(alloc, "alien symbol: ")?;
-    for byte in name {
-        line.push(char::from(*byte))?;
+    ghost from_gives = { λ _ refusal. refusal ≡ Memory };
+
+    fn from(_: NoMemory) -> Refusal {
+        Refusal::Memory
     }
-    Ok(line)
 }

@@ -5,7 +5,7 @@ ghost use Rattle.dk_cli.specs.Commands.{texts, command_of};
 ghost use Rattle.dk_cli.specs.Delivery.{Delivers, IsRefused, change};
 ghost use Rattle.dk_cli.specs.Headline.{CanCome, CarriesOutEach, DoesOutcome, IsRun, Lacks, NotesByStatus, WritesByStatus};
 ghost use Rattle.dk_cli.specs.Proof.{WritesProof};
-ghost use Rattle.dk_cli.specs.Refusals.{NamesStep};
+ghost use Rattle.dk_cli.specs.Refusals.{HasNumber};
 ghost use Rattle.dk_cli.specs.Steps.{answer_view};
 
 use crate::answer::answer;
@@ -17,7 +17,7 @@ use std::thread::Threads;
 /// Sends the line of a refusal, or that memory ran out.
 pub fn refuse<N: Notes>(alloc: Global, refusal: &Refusal, notes: &mut N) -> Status
     ensures { (IsRefused refusal.now result (change (N.kept notes.old) (N.kept notes.new) (N.faults notes.old) (N.faults notes.new)))
-        ⊎ (NamesStep refusal.now × IsRefused Refusal.Memory result (change (N.kept notes.old) (N.kept notes.new) (N.faults notes.old) (N.faults notes.new))) }
+        ⊎ (HasNumber refusal.now × IsRefused Refusal.Memory result (change (N.kept notes.old) (N.kept notes.new) (N.faults notes.old) (N.faults notes.new))) }
 {
     if let Some(line) = refusal.fixed_line() {
         let _ = notes.line(line);

@@ -125,7 +125,7 @@ fn run_outside<R: Threads + Sync + AllocGlobal>(rt: &R, outside: Outside) -> Res
 }
 
 #[test]
-fn refusals_name_the_first_fault(rt: HostRuntime) -> Result<(), Fail> {
+fn wrong_steps_are_named(rt: HostRuntime) -> Result<(), Fail> {
     let alien = "cnf(c,plain,q,inference(r,[status(thm)],[a1,a2])).\n";
     let last = "cnf(d,plain,$false,inference(r,[status(thm)],[a1,a2])).\n";
     let wide = "cnf(a1,axiom,p|q,file(x,a1)).\ncnf(a2,axiom,~p,file(x,a2)).\n";
@@ -145,6 +145,12 @@ fn refusals_name_the_first_fault(rt: HostRuntime) -> Result<(), Fail> {
             "step 3: wrong: unjustified clause 0\n",
         ),
         (
+            "cnf(a1,axiom,p|(q|r)).\n",
+            ["cnf(a1,axiom,(p|q)|r,file(x,a1)).\n", unknown, ""],
+            Status::Input,
+            "step 1: wrong: altered leaf\n",
+        ),
+        (
             PROBLEM,
             [LEAVES, unused, ""],
             Status::Input,
@@ -152,12 +158,16 @@ fn refusals_name_the_first_fault(rt: HostRuntime) -> Result<(), Fail> {
         ),
         (
             PROBLEM,
-            ["cnf(a1,axiom,p(X),file(x,a1)).\n", END, ""],
+            [
+                "cnf(a1,axiom,p(X),file(x,a1)).\n",
+                END,
+                "cnf(a2,axiom,~p).\n",
+            ],
             Status::Unbuilt,
             "not built: trace\n",
         ),
         (
-            "fof(a,axiom,p).\n",
+            "fof(a,axiom,![X]:p(X)).\n",
             [LEAVES, END, ""],
             Status::Unbuilt,
             "not built: problem\n",
@@ -168,32 +178,117 @@ fn refusals_name_the_first_fault(rt: HostRuntime) -> Result<(), Fail> {
             Status::Input,
             "step 1: wrong: unknown leaf\n",
         ),
-        (
-            PROBLEM,
-            ["cnf(a1,axiom,~p,file(x,a1)).\n", unknown, ""],
-            Status::Input,
-            "step 1: wrong: altered leaf\n",
-        ),
     ];
     for (problem, parts, status, line) in rows {
         let trace = joined(rt.alloc(), &parts)?;
         assert!(rt; is_refused(&rt, problem, trace.as_str(), status, line)?);
     }
+    Ok(())
+}
 
-    // Cut behind an item or in the space after it the trace is one without an end, elsewhere it is none.
+#[test]
+fn items_and_steps_at_fault_are_named(rt: HostRuntime) -> Result<(), Fail> {
+    for (problem, line) in [
+        ("fof(a,axiom,a=b).", "problem item 1: outside: equality\n"),
+        ("fof(a,axiom,p(X)).", "problem item 1: free variable: X\n"),
+        ("fof(a,plain,p).", "problem item 1: bad role\n"),
+        (
+            "fof(a,conjecture,p). fof(b,conjecture,p).",
+            "problem item 2: second conjecture\n",
+        ),
+        (
+            "fof(a,axiom,p). fof(a,axiom,p).",
+            "problem item 2: duplicate name\n",
+        ),
+        ("include(x).", "problem item 1: outside: include\n"),
+    ] {
+        assert!(rt; is_refused(&rt, problem, "", Status::Input, line)?);
+    }
+    let missing = "cnf(c,plain,$false,inference(r,[status(thm)],[a1,'z z'])).\n";
+    let circle = "cnf(x,plain,p,y).\ncnf(y,plain,p,x).\n";
+    for (parts, line) in [
+        (
+            ["cnf(a,axiom,p,introduced(x)).", "", ""],
+            "step 1: unsupported: word\n",
+        ),
+        (
+            ["cnf(a,axiom,p,inference(r,[status(sat)],[a])).", "", ""],
+            "step 1: unsupported: status\n",
+        ),
+        (
+            ["cnf(a,axiom,p,inference(r,[],[])).", "", ""],
+            "step 1: unsupported: no parent\n",
+        ),
+        (
+            ["cnf(d,axiom,p,inference(r,[],[a,b,c])).", "", ""],
+            "step 1: unsupported: many parents\n",
+        ),
+        (
+            [LEAVES, "cnf(a1,axiom,p,a2).", ""],
+            "step 3: duplicate name\n",
+        ),
+        ([LEAVES, missing, ""], "step 3: missing parent: 'z z'\n"),
+        ([LEAVES, END, circle], "step 4: cycle\n"),
+    ] {
+        let trace = joined(rt.alloc(), &parts)?;
+        assert!(rt; is_refused(&rt, PROBLEM, trace.as_str(), Status::Input, line)?);
+    }
+    Ok(())
+}
+
+#[test]
+fn a_trace_may_be_cut_anywhere(rt: HostRuntime) -> Result<(), Fail> {
+    // Behind an item or in the space after it the trace is one without an end, elsewhere it is none.
     let whole = joined(rt.alloc(), &[LEAVES, END])?;
-    for (length, bytes) in [0, 27, 28, 56, 57, 1, 26, 29, 55, 58, 111]
-        .into_iter()
-        .enumerate()
-    {
-        let (status, line) = if length < 5 {
-            (Status::Input, "no refutation\n")
-        } else {
-            (Status::Unbuilt, "not built: trace\n")
+    for length in 0..112 {
+        let (status, line) = match length {
+            0 | 27 | 28 | 56 | 57 => (Status::Input, "no refutation\n"),
+            1..=26 => (Status::Text, "not TPTP: trace at byte 0\n"),
+            29..=55 => (Status::Text, "not TPTP: trace at byte 28\n"),
+            _ => (Status::Text, "not TPTP: trace at byte 57\n"),
         };
-        let part = whole.as_str().get(..bytes).ok_or("shorter")?;
+        let part = whole.as_str().get(..length).ok_or("shorter")?;
         assert!(rt; is_refused(&rt, PROBLEM, part, status, line)?);
     }
+    Ok(())
+}
+
+/// `p` in so many pairs of parentheses, as a problem.
+fn bracketed(alloc: Global, pairs: usize) -> Result<String, Fail> {
+    let mut text = String::from_str(alloc, "fof(a,axiom,")?;
+    for _pair in 0..pairs {
+        text.push_str("(")?;
+    }
+    text.push_str("p")?;
+    for _pair in 0..pairs {
+        text.push_str(")")?;
+    }
+    text.push_str(").")?;
+    Ok(text)
+}
+
+#[test]
+fn limits_are_met(rt: HostRuntime) -> Result<(), Fail> {
+    let alloc = rt.alloc();
+    let deep = bracketed(alloc, 1000)?;
+    let line = "too deep: problem at byte 0\n";
+    assert!(rt; is_refused(&rt, deep.as_str(), "", Status::Limit, line)?);
+    let within = bracketed(alloc, 999)?;
+    assert!(rt; is_refused(&rt, within.as_str(), "", Status::Input, "no refutation\n")?);
+
+    let blank = Vec::from_elem(alloc, b' ', 16_777_216)?;
+    let found = run_on(&rt, &["convert", "p", "t"], PROBLEM, &blank, SOUND)?;
+    assert!(rt; found.is_refusal(Status::Input, "no refutation\n"));
+    let long = Vec::from_elem(alloc, b' ', 16_777_217)?;
+    let found = run_on(&rt, &["convert", "p", "t"], PROBLEM, &long, SOUND)?;
+    assert!(rt; found.is_refusal(Status::Limit, "too long: trace\n"));
+
+    let mut many = String::new(alloc);
+    for _item in 0..65_537 {
+        many.push_str("cnf(a,plain,p).")?;
+    }
+    let line = "too many items: trace\n";
+    assert!(rt; is_refused(&rt, PROBLEM, many.as_str(), Status::Limit, line)?);
     Ok(())
 }
 
@@ -202,6 +297,19 @@ fn each_call_of_the_outside_may_fail(rt: HostRuntime) -> Result<(), Fail> {
     let whole = run_outside(&rt, SOUND)?;
     assert!(rt; whole.status == Status::Done && whole.notes.is_empty());
     assert!(rt; whole.out.as_slice().ends_with(WRITTEN.as_bytes()));
+
+    // The steps may stand in any order.
+    let reversed = joined(
+        rt.alloc(),
+        &[
+            END,
+            "cnf(a2,axiom,~p,file(x,a2)).\n",
+            "cnf(a1,axiom,p,file(x,a1)).\n",
+        ],
+    )?;
+    let bytes = reversed.as_str().as_bytes();
+    let found = run_on(&rt, &["convert", "p", "t"], PROBLEM, bytes, SOUND)?;
+    assert!(rt; found.out.as_slice() == whole.out.as_slice());
 
     // The last newline of the trace may lack.
     let trace = joined(rt.alloc(), &[LEAVES, END])?;
@@ -258,8 +366,5 @@ fn words_and_files_are_looked_for(rt: HostRuntime) -> Result<(), Fail> {
     assert!(rt; found.is_refusal(Status::ReadFault, "read fault: trace\n"));
     let found = run_on(&rt, &["convert", "q", "t"], PROBLEM, b"", SOUND)?;
     assert!(rt; found.is_refusal(Status::ReadFault, "read fault: problem\n"));
-    let long = Vec::from_elem(rt.alloc(), b' ', 16_777_217)?;
-    let found = run_on(&rt, &["convert", "p", "t"], PROBLEM, &long, SOUND)?;
-    assert!(rt; found.is_refusal(Status::Limit, "too long: trace\n"));
     Ok(())
 }

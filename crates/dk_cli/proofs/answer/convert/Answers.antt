@@ -1,7 +1,9 @@
-use Rattle.std.proofs.Common.{Err, ap, sym, ◌∙◌}
+use Rattle.std.proofs.Common.{Err, ap, subst, sym, ◌∙◌}
 use Rattle.std.proofs.lemmas.Result.{err_from_is_err_and}
-use Rattle.dk_cli.specs.Steps.{command_view}
-use Rattle.dk_cli.proofs.Unread.{problem_ends, trace_ends}
+use Rattle.dk_cli.specs.Outcome.{IsConverted}
+use Rattle.dk_cli.specs.Stages.{Answered}
+use Rattle.dk_cli.specs.Steps.{answer_view, command_view}
+use Rattle.dk_cli.proofs.Unread.{converted_ends, problem_ends, trace_ends}
 use Rattle.dk_cli.proofs.answer.convert.Goals as goal
 
 pub returns-in_err-problem-clause-answers : goal.returns-in_err-problem-clause-answers
@@ -17,3 +19,12 @@ returns-in_err-trace-clause-answers g c =
     c.read_file.result c.read_file-2.result c.from_residual-in_err-trace.result c.in_ok-problem.problem end.0
     c.in_ok-problem.was c.read_file.ensures.reads c.read_file.ensures.same
     (c.in_err-trace.was ∙ ap Err (sym end.2)) end.1 c.read_file-2.ensures.reads
+
+pub returns-clause-answers : goal.returns-clause-answers
+returns-clause-answers g c =
+    converted_ends (g.I.Inputs.told c.args.inputs.now) (g.I.Inputs.told c.read_file.new.inputs) (command_view c.args.names) _ _ _
+    c.read_file.result c.read_file-2.result c.in_ok-problem.problem c.in_ok-trace.trace (answer_view c.converted.result)
+    c.in_ok-problem.was c.read_file.ensures.reads c.read_file.ensures.same
+    c.in_ok-trace.was c.read_file-2.ensures.reads
+    (subst (λ trace. Answered (IsConverted c.in_ok-problem.problem.items trace) (answer_view c.converted.result)) c.deref-2.ensures.value
+    (subst (λ problem. Answered (IsConverted problem c.deref-2.result.now) (answer_view c.converted.result)) c.deref.ensures.value c.converted.ensures))

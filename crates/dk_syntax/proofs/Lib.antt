@@ -1,3 +1,4 @@
 pub mod FirstOccurrences
 pub mod FormulaLaws
 pub mod TermLaws
+pub mod SymbolLaws

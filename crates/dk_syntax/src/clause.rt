@@ -49,7 +49,7 @@ impl Clause {
 pub fn copy_literals(alloc: Global, literals: &[Literal]) -> Result<Seq<Literal>, NoMemory>
     ensures { IfOk result (λ all. all ≡ literals.now) }
 {
-    let mut all = Seq::from_vec(Vec::new(alloc));
+    let mut all = Seq::from_vec(Vec::with_capacity(alloc, literals.len())?);
     for literal in literals {
         all.push(literal.copy(alloc)?)?;
     }

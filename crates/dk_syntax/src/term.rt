@@ -50,7 +50,7 @@ impl Term {
 pub fn copy_terms(alloc: Global, terms: &[Term]) -> Result<Seq<Term>, NoMemory>
     ensures { IfOk result (λ all. all ≡ terms.now) }
 {
-    let mut all = Seq::from_vec(Vec::new(alloc));
+    let mut all = Seq::from_vec(Vec::with_capacity(alloc, terms.len())?);
     for term in terms {
         all.push(term.copy(alloc)?)?;
     }

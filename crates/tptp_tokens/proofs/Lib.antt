@@ -4,3 +4,4 @@ pub mod Loops
 pub mod NumberLaws
 pub mod Places
 pub mod SkippedMatter
+pub mod UnclosedQuotes

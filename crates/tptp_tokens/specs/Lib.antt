@@ -3,6 +3,7 @@ pub mod Bytes
 pub mod Chunks
 pub mod Matter
 pub mod Numbers
+pub mod Quotes
 pub mod Scan
 pub mod Skipping
 pub mod Spelling

@@ -4,29 +4,34 @@
 ghost use Rattle.std.specs.Prelude.{◌≡◌, length, IfOk};
 ghost use Rattle.tptp_tokens.specs.Brackets.{too_deep};
 ghost use Rattle.tptp_tokens.specs.Chunks.{chunk};
+ghost use Rattle.tptp_tokens.specs.Quotes.{KnowsUnclosed};
 ghost use Rattle.tptp_tokens.specs.Skipping.{KnowsClosing, IsTail};
 
 use crate::matter::skip_matter;
-use crate::scan::token_of;
+use crate::quoted::Unclosed;
+use crate::scan::next_token;
 use crate::token::Token;
 use dk_syntax::NoMemory;
 use std::alloc::Global;
 
 /// The tokens up to the first full stop, and what is left from there on.
-pub(crate) fn tokens_of(
+pub(crate) fn tokens_of<'a>(
     alloc: Global,
     closing: usize,
-    bytes: &[u8],
-) -> Result<(Vec<Token>, &[u8]), NoMemory>
-    requires { KnowsClosing closing bytes.now }
+    unclosed: &mut Unclosed,
+    bytes: &'a [u8],
+) -> Result<(Vec<Token>, &'a [u8]), NoMemory>
+    requires closes { KnowsClosing closing bytes.now }
+    requires knows { KnowsUnclosed unclosed.old bytes.now }
     ensures tokens { IfOk result (λ x. (x.0.items, x.1.now) ≡ chunk (length bytes.now) bytes.now) }
     ensures tail { IfOk result (λ x. IsTail x.1.now bytes.now) }
+    ensures knows { IfOk result (λ x. KnowsUnclosed unclosed.new x.1.now) }
 {
     let mut tokens = Vec::new(alloc);
     let mut rest = bytes;
     for _ in 0..bytes.len() {
         let here = skip_matter(closing, false, rest);
-        match token_of(alloc, here)? {
+        match next_token(alloc, unclosed, here)? {
             None => return Ok((tokens, here)),
             Some((Token::Dot, _)) => return Ok((tokens, here)),
             Some((token, after)) => {

@@ -6,10 +6,9 @@
 //! `proofs/LongestToken`, `proofs/SkippedMatter` and `proofs/ChunkLaws` have the laws: each reader gives what
 //! the definition says, and nothing else fits the definition.
 //!
-//! A text is read once, in time linear in its length, unclosed comments included, but that a quote that no
-//! other one closes is looked for to the end of its line from each such quote. The tokens of an item are kept
-//! at once: 64 bytes for each byte of its text at most, for tokens of one byte whose vector has just grown,
-//! and their names. Nothing recurses.
+//! A text is read once, in time linear in its length, unclosed comments and quotes included: an `Unread` knows
+//! where searches for their ends were in vain. The tokens of an item are kept at once: 64 bytes for each byte of
+//! its text at most, for tokens of one byte whose vector has just grown, and their names. Nothing recurses.
 #![tactic(auto)]
 
 mod chunks;

@@ -1,10 +1,11 @@
 //! The longest token in front of bytes.
 ghost use Rattle.std.specs.Prelude.{◌≡◌, ◌∷◌, IfOk};
 ghost use Rattle.tptp_tokens.specs.Scan as scan;
+ghost use Rattle.tptp_tokens.specs.Quotes.{KnowsUnclosed};
 
 use crate::marks::mark_behind;
 use crate::numbers::after_number;
-use crate::quoted::{distinct, quoted};
+use crate::quoted::{Unclosed, distinct, quoted};
 use crate::token::Token;
 use crate::words::{
     after_dollar, after_word, before, is_digit_byte, is_lower_byte, is_sign_byte, is_upper_byte,
@@ -43,11 +44,17 @@ fn dollar<'a>(
     }
 }
 
-/// The longest token that stands in front of the bytes, and the bytes behind it. None begins with white
-/// space, with a control byte or with a byte past ASCII, and one begins with any other byte.
+/// The longest token that stands in front of the bytes, and the bytes behind it. What is known of quotes that
+/// nothing closes grows.
 #[tactic(auto, unfolding(crate::specs::Scan::token_at))]
-pub fn token_of(alloc: Global, bytes: &[u8]) -> Result<Option<(Token, &[u8])>, NoMemory>
-    ensures { IfOk result (λ o. scan.seen (λ x. (x.0, x.1.now)) o ≡ scan.token_at bytes.now) }
+pub(crate) fn next_token<'a>(
+    alloc: Global,
+    unclosed: &mut Unclosed,
+    bytes: &'a [u8],
+) -> Result<Option<(Token, &'a [u8])>, NoMemory>
+    requires { KnowsUnclosed unclosed.old bytes.now }
+    ensures read { IfOk result (λ o. scan.seen (λ x. (x.0, x.1.now)) o ≡ scan.token_at bytes.now) }
+    ensures knows { IfOk result (λ o. KnowsUnclosed unclosed.new bytes.now) }
 {
     match bytes {
         [] => Ok(None),
@@ -62,9 +69,9 @@ pub fn token_of(alloc: Global, bytes: &[u8]) -> Result<Option<(Token, &[u8])>, N
             } else if is_digit_byte(b) || is_sign_byte(b) {
                 Ok(Some(number(alloc, b, bytes, behind)?))
             } else if b == b'\'' {
-                Ok(Some(quoted(alloc, behind)?))
+                Ok(Some(quoted(alloc, &mut unclosed.single, behind)?))
             } else if b == b'"' {
-                Ok(Some(distinct(alloc, behind)?))
+                Ok(Some(distinct(alloc, &mut unclosed.double, behind)?))
             } else if b == b'$' {
                 Ok(Some(dollar(alloc, bytes, behind)?))
             } else {
@@ -72,4 +79,13 @@ pub fn token_of(alloc: Global, bytes: &[u8]) -> Result<Option<(Token, &[u8])>, N
             }
         }
     }
+}
+
+/// The longest token that stands in front of the bytes, and the bytes behind it. None begins with white
+/// space, with a control byte or with a byte past ASCII, and one begins with any other byte.
+pub fn token_of(alloc: Global, bytes: &[u8]) -> Result<Option<(Token, &[u8])>, NoMemory>
+    ensures { IfOk result (λ o. scan.seen (λ x. (x.0, x.1.now)) o ≡ scan.token_at bytes.now) }
+{
+    let mut unclosed = Unclosed::new(bytes);
+    next_token(alloc, &mut unclosed, bytes)
 }

@@ -101,6 +101,11 @@ fn texts_have_their_tokens(rt: HostRuntime) -> Result<(), Fail> {
             "other:' quoted:  lower:a other:\\ lower:b other:' ",
         ),
         ("\"\" \"a\\\"b\" \"", "distinct: distinct:a\"b other:\" "),
+        ("'\\'a", "other:' other:\\ other:' lower:a "),
+        ("'\\\\'", "quoted:\\ "),
+        ("'\\'\n'a'", "other:' other:\\ other:' quoted:a "),
+        ("'\\'\"a\"", "other:' other:\\ other:' distinct:a "),
+        ("'\\a'b'", "other:' other:\\ lower:a quoted:b "),
         ("= => <= <=> <~> !", "= => <= <=> <~> ! "),
         ("~|~& ~~? != <~ <==", "~| ~& ~ ~ ? != other:< ~ <= = "),
         (
@@ -127,6 +132,28 @@ fn matter_is_skipped(rt: HostRuntime) -> Result<(), Fail> {
     ] {
         let found = shown(rt.alloc(), text)?;
         assert_eq!(rt; found.as_slice(), expected.as_bytes(), "at {text}");
+    }
+    Ok(())
+}
+
+// so many quotes with a `\` behind each
+fn slashed(alloc: Global, quote: u8, count: usize) -> Result<Vec<u8>, NoMemory> {
+    let mut text = Vec::new(alloc);
+    for _ in 0..count {
+        text.push(quote)?;
+        text.push(b'\\')?;
+    }
+    Ok(text)
+}
+
+// each quote but the first is escaped for the one before it, so that a search from any of them goes on to the end
+#[test]
+fn unclosed_quotes_are_read_at_once(rt: HostRuntime) -> Result<(), Fail> {
+    for quote in [b'\'', b'"'] {
+        let text = slashed(rt.alloc(), quote, 200_000)?;
+        let (tokens, rest) = Unread::new(text.as_slice()).chunk(rt.alloc())?;
+        assert_eq!(rt; tokens.len(), 400_000);
+        assert!(rt; rest.is_empty());
     }
     Ok(())
 }

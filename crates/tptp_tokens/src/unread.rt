@@ -7,18 +7,21 @@ ghost use Rattle.tptp_tokens.specs.TokenLists.{AreTokens};
 
 use crate::chunks::tokens_of;
 use crate::matter::{closing_tail, skip_matter};
+use crate::quoted::Unclosed;
 use crate::token::Token;
 use dk_syntax::NoMemory;
 use std::alloc::Global;
 use std::marker::Model;
 
 /// What of a text is still unread, which contracts see as the list of its bytes. It knows where the last
-/// comment of the text ends, so that no end of a comment is searched for in vain.
+/// comment of the text ends, so that no end of a comment is searched for in vain, and where the last search for
+/// a closing quote ended in vain, so that no later one goes over the same bytes.
 #[derive(Drop)]
 pub struct Unread<'a> {
     bytes: &'a [u8],
     // How long the tail of the text is that begins at the last `*/`, or 0 where there is none.
     closing: usize,
+    unclosed: Unclosed,
 }
 
 impl<'a> Model for Unread<'a> {
@@ -27,10 +30,11 @@ impl<'a> Model for Unread<'a> {
     ghost Value = { List ℕ };
 
     ghost use Rattle.tptp_tokens.specs.Skipping.{KnowsClosing};
+    ghost use Rattle.tptp_tokens.specs.Quotes.{KnowsUnclosed};
 
     ghost view = { λ unread. unread.bytes.now };
 
-    ghost invariant = { λ unread. KnowsClosing unread.closing unread.bytes.now };
+    ghost invariant = { λ unread. KnowsClosing unread.closing unread.bytes.now × KnowsUnclosed unread.unclosed unread.bytes.now };
 }
 
 impl<'a> Unread<'a> {
@@ -38,8 +42,11 @@ impl<'a> Unread<'a> {
     pub fn new(bytes: &'a [u8]) -> Unread<'a>
         ensures { result ≡ bytes.now }
     {
-        let closing = closing_tail(bytes);
-        Unread { bytes, closing }
+        Unread {
+            bytes,
+            closing: closing_tail(bytes),
+            unclosed: Unclosed::new(bytes),
+        }
     }
 
     /// How many bytes are left.
@@ -64,6 +71,7 @@ impl<'a> Unread<'a> {
         Unread {
             bytes,
             closing: self.closing,
+            unclosed: self.unclosed,
         }
     }
 
@@ -75,6 +83,7 @@ impl<'a> Unread<'a> {
             [b'.', bytes @ ..] => Some(Unread {
                 bytes,
                 closing: self.closing,
+                unclosed: self.unclosed,
             }),
             _ => None,
         }
@@ -86,10 +95,12 @@ impl<'a> Unread<'a> {
         ensures are { IfOk result (λ x. AreTokens self.now x.0.items x.1) }
         ensures read { IfOk result (λ x. (x.0.items, x.1) ≡ chunk (length self.now) self.now) }
     {
-        let (tokens, bytes) = tokens_of(alloc, self.closing, self.bytes)?;
+        let mut unclosed = self.unclosed;
+        let (tokens, bytes) = tokens_of(alloc, self.closing, &mut unclosed, self.bytes)?;
         let rest = Unread {
             bytes,
             closing: self.closing,
+            unclosed,
         };
         Ok((tokens, rest))
     }

@@ -10,7 +10,7 @@ are_result : (bytes now : List ℕ) (x : List Token × List ℕ) → bytes ≡ n
 are_result bytes now x same e = subst (λ (y : List ℕ). AreTokens y x.0 x.1) same (subst (λ (y : List Token × List ℕ). AreTokens bytes y.0 y.1) (sym e) (chunk_so (length bytes) bytes (omega arith)))
 
 pub invariant_of-rest : goal.invariant_of-rest
-invariant_of-rest c = tail_knows c.self.inside.closing c.in_ok-tokens.ensures.tail c.self.invariant
+invariant_of-rest c = (tail_knows c.self.inside.closing c.in_ok-tokens.ensures.tail c.self.invariant.0, c.in_ok-tokens.ensures.knows)
 
 pub returns-clause-are : goal.returns-clause-are
 returns-clause-are c = are_result c.self.inside.bytes.now c.args.self.now _ c.self.view_is c.in_ok-tokens.ensures.tokens

@@ -42,11 +42,11 @@ fn close(alloc: Global, raw: &Raw) -> Result<Formula, BodyFault>
     }
     match free_variables(alloc, raw)? {
         None => Err(BodyFault::TooDeep),
-        Some(names) => {
+        Some(mut names) => {
             if depth.saturating_add(names.len() as u64) > 1000 {
                 return Err(BodyFault::TooDeep);
             }
-            let inner = build_formula(alloc, raw, names.as_slice())?;
+            let inner = build_formula(alloc, raw, &mut names)?;
             Ok(close_over(alloc, names.as_slice(), inner)?)
         }
     }

@@ -13,8 +13,7 @@
 //! for what is built by the depth of 1,000, which is tested before anything is built.
 //!
 //! Reading takes time linear in the tokens. A body takes for each variable the time to look for its name
-//! among those that are bound around it and the first 1,001 free ones, and for each quantifier that to copy
-//! these names, of which there are at most 1,000.
+//! among those that are bound around it, of which there are at most 1,000, and the first 1,001 free ones.
 #![tactic(auto)]
 
 mod atoms;

@@ -7,7 +7,7 @@ ghost use Rattle.tptp_formulas.specs.Scopes.{each};
 
 use crate::outside::names_true;
 use crate::raw::{Connective, Link, Prefix, Raw, RawTerm};
-use crate::scopes::{are_negations, extend};
+use crate::scopes::{bind, unbind};
 use dk_syntax::{Boxed, Formula, Kind, Name, NoMemory, Seq, SymKey, Term};
 use std::alloc::Global;
 
@@ -68,7 +68,7 @@ fn build_term(alloc: Global, raw: &RawTerm, bound: &[Name]) -> Result<Term, NoMe
 fn build_terms(alloc: Global, raws: &[RawTerm], bound: &[Name]) -> Result<Seq<Term>, NoMemory>
     ensures { IfOk result (λ all. all ≡ each bound.now (map term_of raws.now)) }
 {
-    let mut all = Seq::from_vec(Vec::new(alloc));
+    let mut all = Seq::from_vec(Vec::with_capacity(alloc, raws.len())?);
     for raw in raws {
         all.push(build_term(alloc, raw, bound)?)?;
     }
@@ -159,26 +159,25 @@ fn build_constant(name: &Name) -> Formula
     }
 }
 
-/// The formula where these names are bound, the nearest last.
+/// The formula where these names are bound, the nearest last. They are left bound.
 #[cycle(build_formula)]
-pub fn build_formula(alloc: Global, raw: &Raw, bound: &[Name]) -> Result<Formula, NoMemory>
-    ensures { IfOk result (λ f. f ≡ formula_of raw.now bound.now) }
+pub fn build_formula(alloc: Global, raw: &Raw, bound: &mut Seq<Name>) -> Result<Formula, NoMemory>
+    ensures built { IfOk result (λ f. f ≡ formula_of raw.now bound.old) }
+    ensures bound { IfOk result (λ f. bound.new ≡ bound.old) }
 {
     match raw {
         Raw::Atom(name, args) => {
             let symbol = make_symbol(alloc, name, args.len(), Kind::Predicate)?;
-            let args = build_terms(alloc, args.as_slice(), bound)?;
+            let args = build_terms(alloc, args.as_slice(), bound.as_slice())?;
             Ok(Formula::Atom(symbol, args))
         }
         Raw::Dollar(name, _) => Ok(build_constant(name)),
         Raw::Equation(_, _, _) => Ok(Formula::False),
         Raw::Unit(prefixes, inner) => {
-            if are_negations(prefixes.as_slice()) {
-                let f = build_formula(alloc, inner.get(), bound)?;
-                return wrap(alloc, prefixes.as_slice(), f);
-            }
-            let bound = extend(alloc, bound, prefixes.as_slice())?;
-            let f = build_formula(alloc, inner.get(), bound.as_slice())?;
+            let around = bound.len();
+            bind(alloc, bound, prefixes.as_slice())?;
+            let f = build_formula(alloc, inner.get(), bound)?;
+            unbind(bound, around);
             wrap(alloc, prefixes.as_slice(), f)
         }
         Raw::Binary(connective, left, right) => {
@@ -199,9 +198,10 @@ fn chain(
     others: &[Raw],
     by: Link,
     first: Formula,
-    bound: &[Name],
+    bound: &mut Seq<Name>,
 ) -> Result<Formula, NoMemory>
-    ensures { IfOk result (λ f. f ≡ chained by first (each bound.now (map formula_of others.now))) }
+    ensures built { IfOk result (λ f. f ≡ chained by first (each bound.old (map formula_of others.now))) }
+    ensures bound { IfOk result (λ f. bound.new ≡ bound.old) }
 {
     let mut whole = first;
     for other in others {

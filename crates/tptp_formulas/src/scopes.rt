@@ -1,8 +1,7 @@
 //! Names that are bound, and free variables.
 #![tactic(auto, using(crate::proofs::ScopeSteps::scope_steps))]
 
-ghost use Rattle.std.specs.Prelude.{◌≡◌, [], ◌++◌, map, IfOk, OnOk};
-ghost use Rattle.std.specs.Bool.{OnTrue};
+ghost use Rattle.std.specs.Prelude.{◌≡◌, [], ◌++◌, map, take, IfOk, OnOk};
 ghost use Rattle.dk_syntax.specs.Symbols.{joined};
 ghost use Rattle.tptp_formulas.specs.FewNames.{few_names, with_few};
 ghost use Rattle.tptp_formulas.specs.Scopes.{each, free_in, has_name, names_of, term_variables, unbound};
@@ -32,40 +31,27 @@ fn add_names(alloc: Global, all: &mut Seq<Name>, names: &[Name]) -> Result<(), N
     Ok(())
 }
 
-fn add_bound(alloc: Global, all: &mut Seq<Name>, prefixes: &[Prefix]) -> Result<(), NoMemory>
-    ensures { OnOk result (all.new ≡ all.old ++ names_of prefixes.now) }
+/// Binds the names of the prefixes, behind those that are bound around them.
+pub fn bind(alloc: Global, bound: &mut Seq<Name>, prefixes: &[Prefix]) -> Result<(), NoMemory>
+    ensures { OnOk result (bound.new ≡ bound.old ++ names_of prefixes.now) }
 {
     for prefix in prefixes {
         match prefix {
             Prefix::Not => {}
-            Prefix::ForAll(names) => add_names(alloc, all, names.as_slice())?,
-            Prefix::Exists(names) => add_names(alloc, all, names.as_slice())?,
+            Prefix::ForAll(names) => add_names(alloc, bound, names.as_slice())?,
+            Prefix::Exists(names) => add_names(alloc, bound, names.as_slice())?,
         }
     }
     Ok(())
 }
 
-/// The names that are bound behind prefixes.
-pub fn extend(alloc: Global, bound: &[Name], prefixes: &[Prefix]) -> Result<Seq<Name>, NoMemory>
-    ensures { IfOk result (λ all. all ≡ bound.now ++ names_of prefixes.now) }
+/// Leaves so many names bound, the outermost ones.
+pub fn unbind(bound: &mut Seq<Name>, left: usize)
+    ensures { bound.new ≡ take left bound.old }
 {
-    let mut all = Seq::from_vec(Vec::new(alloc));
-    add_names(alloc, &mut all, bound)?;
-    add_bound(alloc, &mut all, prefixes)?;
-    Ok(all)
-}
-
-/// Whether the prefixes are negations, which bind nothing.
-pub fn are_negations(prefixes: &[Prefix]) -> bool
-    ensures { OnTrue result (names_of prefixes.now ≡ []) }
-{
-    for prefix in prefixes {
-        match prefix {
-            Prefix::Not => {}
-            Prefix::ForAll(_) | Prefix::Exists(_) => return false,
-        }
+    while bound.len() > left {
+        let _ = bound.pop();
     }
-    true
 }
 
 fn add_name(alloc: Global, seen: &mut Seq<Name>, name: &Name) -> Result<(), NoMemory>
@@ -116,24 +102,30 @@ fn add_terms(
     Ok(())
 }
 
-/// Adds the formula's free variables.
+/// Adds the formula's free variables, and leaves the names bound that were.
 #[cycle(add_free)]
-fn add_free(alloc: Global, seen: &mut Seq<Name>, raw: &Raw, bound: &[Name]) -> Result<(), NoMemory>
-    ensures { OnOk result (seen.new ≡ few_names seen.old (free_in raw.now bound.now)) }
+fn add_free(
+    alloc: Global,
+    seen: &mut Seq<Name>,
+    raw: &Raw,
+    bound: &mut Seq<Name>,
+) -> Result<(), NoMemory>
+    ensures added { OnOk result (seen.new ≡ few_names seen.old (free_in raw.now bound.old)) }
+    ensures bound { OnOk result (bound.new ≡ bound.old) }
 {
     match raw {
-        Raw::Atom(_, args) => add_terms(alloc, seen, args.as_slice(), bound),
-        Raw::Dollar(_, args) => add_terms(alloc, seen, args.as_slice(), bound),
+        Raw::Atom(_, args) => add_terms(alloc, seen, args.as_slice(), bound.as_slice()),
+        Raw::Dollar(_, args) => add_terms(alloc, seen, args.as_slice(), bound.as_slice()),
         Raw::Equation(_, left, right) => {
-            add_term(alloc, seen, left, bound)?;
-            add_term(alloc, seen, right, bound)
+            add_term(alloc, seen, left, bound.as_slice())?;
+            add_term(alloc, seen, right, bound.as_slice())
         }
         Raw::Unit(prefixes, inner) => {
-            if are_negations(prefixes.as_slice()) {
-                return add_free(alloc, seen, inner.get(), bound);
-            }
-            let bound = extend(alloc, bound, prefixes.as_slice())?;
-            add_free(alloc, seen, inner.get(), bound.as_slice())
+            let around = bound.len();
+            bind(alloc, bound, prefixes.as_slice())?;
+            add_free(alloc, seen, inner.get(), bound)?;
+            unbind(bound, around);
+            Ok(())
         }
         Raw::Binary(_, left, right) => {
             add_free(alloc, seen, left.get(), bound)?;
@@ -151,9 +143,10 @@ fn add_all_free(
     alloc: Global,
     seen: &mut Seq<Name>,
     formulas: &[Raw],
-    bound: &[Name],
+    bound: &mut Seq<Name>,
 ) -> Result<(), NoMemory>
-    ensures { OnOk result (seen.new ≡ few_names seen.old (joined (each bound.now (map free_in formulas.now)))) }
+    ensures added { OnOk result (seen.new ≡ few_names seen.old (joined (each bound.old (map free_in formulas.now)))) }
+    ensures bound { OnOk result (bound.new ≡ bound.old) }
 {
     for formula in formulas {
         add_free(alloc, seen, formula, bound)?;
@@ -167,6 +160,7 @@ pub fn few_free(alloc: Global, raw: &Raw) -> Result<Seq<Name>, NoMemory>
     ensures { IfOk result (λ names. names ≡ few_names [] (free_in raw.now [])) }
 {
     let mut seen = Seq::from_vec(Vec::new(alloc));
-    add_free(alloc, &mut seen, raw, &[])?;
+    let mut bound = Seq::from_vec(Vec::new(alloc));
+    add_free(alloc, &mut seen, raw, &mut bound)?;
     Ok(seen)
 }

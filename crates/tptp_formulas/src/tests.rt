@@ -79,6 +79,7 @@ fn meanings(rt: HostRuntime) -> Result<(), Fail> {
         ("p~|q", "~(p|q)"),
         ("![X]:?[X]:p(X)", "![Y]:?[Z]:p(Z)"),
         ("p(X)<=q(Y)", "![A]:![B]:(q(B)=>p(A))"),
+        ("(![X]:p(X))&q(X)&r(X)", "![Y]:((![Z]:p(Z))&q(Y)&r(Y))"),
     ] {
         assert!(rt; agree(rt.alloc(), Lang::Fof, text, other)?, "{text}");
     }

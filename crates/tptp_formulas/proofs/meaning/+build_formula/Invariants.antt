@@ -4,5 +4,9 @@ use Rattle.tptp_formulas.specs.Scopes.{each}
 use Rattle.tptp_formulas.proofs.meaning.+build_formula.Given as goal
 
 abbrev pub invariant-chain-loop-other : goal.invariant-chain-loop-other
-invariant-chain-loop-other l =
-    chained l.by l.whole (each l.bound (map formula_of (drop l.other-index l.others))) ≡ chained l.by l.fn.first (each l.bound (map formula_of l.others))
+invariant-chain-loop-other l = record {
+  built :
+      chained l.by l.whole (each l.initial.bound (map formula_of (drop l.other-index l.others)))
+      ≡ chained l.by l.fn.first (each l.initial.bound (map formula_of l.others));
+  bound : l.bound ≡ l.initial.bound;
+}

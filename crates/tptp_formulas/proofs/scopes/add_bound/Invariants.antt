@@ -1,6 +1,0 @@
-use Rattle.std.proofs.Common.{◌≡◌, ◌++◌, drop}
-use Rattle.tptp_formulas.specs.Scopes.{names_of}
-use Rattle.tptp_formulas.proofs.scopes.add_bound.Given as goal
-
-abbrev pub invariant-loop-prefix : goal.invariant-loop-prefix
-invariant-loop-prefix l = l.all ++ names_of (drop l.prefix-index l.prefixes) ≡ l.initial.all ++ names_of l.prefixes

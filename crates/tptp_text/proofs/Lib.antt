@@ -3,6 +3,7 @@ pub mod Layers
 pub mod OpaqueLaws
 pub mod PrintedFormLaws
 pub mod PrintedItemLaws
+pub mod PrintedLimits
 pub mod PrintedMeaning
 pub mod PrintedTokenLaws
 pub mod Printing

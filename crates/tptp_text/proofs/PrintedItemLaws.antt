@@ -1,12 +1,11 @@
--- The text of a printed item spells that item, and no other.
-use Rattle.std.proofs.Common.{◌≡◌, ℕ, ◌^◌, ◌<◌, true, false, List, [], ◌∷◌, Some, inl, inr, refl, subst, codes}
+-- The text of a printed item begins that item.
+use Rattle.std.proofs.Common.{◌≡◌, ℕ, ◌^◌, ◌<◌, true, List, [], ◌∷◌, Some, inl, inr, refl, subst, codes}
 use Rattle.std.specs.List.{list_all}
 use Rattle.std.proofs.lemmas.Bool.{cases_Bool}
 use Rattle.dk_syntax.specs.Depth.{formula_depth}
 use Rattle.dk_syntax.specs.Symbols.{formula_occurrences}
 use Rattle.dk_syntax.specs.declared.Formula.{Formula}
 use Rattle.tptp_tokens.specs.Bytes.{is_digit}
-use Rattle.tptp_tokens.specs.Matter.{Nothing, White}
 use Rattle.tptp_tokens.specs.Spelling.{IsQuoted}
 use Rattle.tptp_tokens.specs.declared.Token.TheVariants as t
 use Rattle.tptp_formulas.specs.Soundness.{IsSound}
@@ -17,7 +16,7 @@ use Rattle.tptp_text.specs.Printed.{AreNamed, is_digit_run, is_lower_word, print
 use Rattle.tptp_text.specs.PrintedForms.{whole, parts_of}
 use Rattle.tptp_text.specs.PrintedTokens.{formula_tokens, item_name_token, item_tokens}
 use Rattle.tptp_text.specs.Sources.{name_of}
-use Rattle.tptp_text.specs.Text.{BeginsItem, NoItem, ItemFirst, Spells}
+use Rattle.tptp_text.specs.Text.{BeginsItem}
 use Rattle.tptp_text.specs.declared.item.Source.TheVariants as source
 use Rattle.tptp_text.proofs.PrintedFormLaws.{formula_written}
 use Rattle.tptp_text.proofs.PrintedMeaning.{printed_body}
@@ -47,12 +46,7 @@ module _ (name role : List ℕ) (f : Formula) (role_so : is_lower_word role ≡ 
   tokens_are = subst (IsItem (item_tokens name role f)) item_is
       (rw role_so (Annotated (codes "fof") lang.Fof (item_name_token name) name role (formula_tokens f 0 (t.CloseRound ∷ [])) (whole (parts_of f 0)) (t.CloseRound ∷ []) source.Missing refl (name_kept name) written NoSource))
 
-  begins : IsQuoted name → AreNamed (formula_occurrences f) → BeginsItem (printed_item name role f) (printed_as name role f) (10 ∷ [])
+  -- Of a closed formula without Any, whose symbols have names of printable bytes and as many arguments as their arity, the printed
+  -- item is read as the item that was printed.
+  pub begins : IsQuoted name → AreNamed (formula_occurrences f) → BeginsItem (printed_item name role f) (printed_as name role f) (10 ∷ [])
   begins named names = record { tokens = item_tokens name role f; are = item_reads name role f named role_so small names; reads = tokens_are }
-
--- Of a closed formula without Any, whose symbols have names of printable bytes and as many arguments as their arity, the printed
--- item is read as the item that was printed.
-pub printed_spells : (name role : List ℕ) (f : Formula) → IsQuoted name → is_lower_word role ≡ true → formula_depth f < 2 ^ 64 → IsSound f → AreNamed (formula_occurrences f) → Spells (printed_item name role f) (printed_as name role f ∷ [])
-printed_spells name role f named role_so small sound names =
-    ItemFirst true (printed_item name role f) (printed_item name role f) (printed_as name role f) (10 ∷ []) [] [] (Nothing true (printed_item name role f) (refl, refl, refl))
-    (begins name role f role_so small sound named names) tt (NoItem false (10 ∷ []) [] (White false 10 [] [] refl (Nothing true [] tt)))

@@ -98,9 +98,9 @@ AreNamed (symbol ∷ symbols) = IsQuoted symbol.name × AreNamed symbols
 abbrev pub printed_as : List ℕ → List ℕ → Formula → Item
 printed_as name role body = record { lang = Fof; name = name; role = role; body = Plain body; free = None; source = Missing }
 
--- What is printed so that it can be read: a name of printable bytes, a role that is a lower word, and a formula without Any in which
+-- What is printed so that it is read back: a name of printable bytes, a role that is a lower word, and a formula without Any in which
 -- no variable is free, each symbol has a name of printable bytes and as many arguments as its arity, and functions stand in terms
--- and predicates in atoms.
+-- and predicates in atoms, of a depth within the reader's limit.
 pub record IsPrintable (name role : List ℕ) (body : Formula) : Type 0 where
   pub named : IsQuoted name
   pub lower : is_lower_word role ≡ true

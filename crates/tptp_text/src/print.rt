@@ -1,11 +1,14 @@
 //! Names, formulas and items, printed.
 #![tactic(auto, using(crate::proofs::Printing::text_steps))]
 
-ghost use Rattle.std.specs.Prelude.{◌≡◌, ◌++◌, ◌∷◌, [], codes, map, IfOk, OnOk};
+ghost use Rattle.std.specs.Prelude.{◌≡◌, ◌⊎◌, ◌++◌, ◌∷◌, [], codes, map, IfOk, List, OnOk, Result, Ok, Err};
 ghost use Rattle.tptp_tokens.specs.Bytes.{is_digit, is_word};
 ghost use Rattle.std.specs.List.{list_all};
 ghost use Rattle.tptp_text.specs.Printed as printed;
-ghost use Rattle.tptp_text.specs.Text.{Spells};
+ghost use Rattle.tptp_text.specs.Text.{IsReadAnswer};
+ghost use Rattle.tptp_text.specs.declared.fault.TptpFault.{TptpFault as Fault};
+ghost use Rattle.tptp_text.specs.declared.fault.TptpFault.TheVariants.{Memory};
+ghost use Rattle.tptp_text.specs.declared.item.Item.{Item as Written};
 
 use dk_syntax::{Formula, Name, NoMemory, Term};
 use itoa::Buffer;
@@ -231,8 +234,8 @@ fn item_text(
     Ok(out)
 }
 
-/// `fof(NAME,ROLE,FORMULA).` and a newline, which is read as that item where it can be read. A formula
-/// under 2^32 quantifiers wants too much memory.
+/// `fof(NAME,ROLE,FORMULA).` and a newline, which `read_items` reads back as that item where it is
+/// printable. A formula under 2^32 quantifiers wants too much memory.
 pub fn print_item(
     alloc: Global,
     name: &Name,
@@ -240,7 +243,9 @@ pub fn print_item(
     formula: &Formula,
 ) -> Result<Vec<u8>, NoMemory>
     ensures text { IfOk result (λ text. text.items ≡ printed.printed_item name.now role.now formula.now) }
-    ensures spells { IfOk result (λ text. printed.IsPrintable name.now role.now formula.now → Spells text.items (printed.printed_as name.now role.now formula.now ∷ [])) }
+    // A printed item is read back, and on its text nothing else is answered but want of memory.
+    ensures reads { IfOk result (λ text. printed.IsPrintable name.now role.now formula.now → IsReadAnswer text.items (Ok (printed.printed_as name.now role.now formula.now ∷ []))) }
+    ensures only { IfOk result (λ text. printed.IsPrintable name.now role.now formula.now → (answer : Result (List Written) Fault) → IsReadAnswer text.items answer → (answer ≡ Ok (printed.printed_as name.now role.now formula.now ∷ [])) ⊎ (answer ≡ Err Memory)) }
 {
     let text = item_text(alloc, name, role, formula)?;
     Ok(text)

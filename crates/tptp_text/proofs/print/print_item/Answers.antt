@@ -1,12 +1,22 @@
-use Rattle.std.proofs.Common.{◌≡◌, ℕ, List, [], ◌∷◌, sym, subst, arith}
+use Rattle.std.proofs.Common.{◌≡◌, ◌⊎◌, ℕ, List, [], ◌∷◌, Result, Ok, Err, sym, subst}
 use Rattle.dk_syntax.specs.declared.Formula.{Formula}
 use Rattle.tptp_text.specs.Printed.{IsPrintable, printed_as, printed_item}
-use Rattle.tptp_text.specs.Text.{Spells}
-use Rattle.tptp_text.proofs.PrintedItemLaws.{printed_spells}
+use Rattle.tptp_text.specs.Text.{IsReadAnswer}
+use Rattle.tptp_text.specs.declared.fault.TptpFault.{TptpFault}
+use Rattle.tptp_text.specs.declared.fault.TptpFault.TheVariants.{Memory}
+use Rattle.tptp_text.specs.declared.item.Item.{Item}
+use Rattle.tptp_text.proofs.PrintedLimits.{printed_is_read, only_printed}
 use Rattle.tptp_text.proofs.print.print_item.Goals as goal
 
-printable_spells : (name role : List ℕ) (body : Formula) (text : List ℕ) → text ≡ printed_item name role body → IsPrintable name role body → Spells text (printed_as name role body ∷ [])
-printable_spells name role body text e h = subst (λ (x : List ℕ). Spells x (printed_as name role body ∷ [])) (sym e) (printed_spells name role body h.named h.lower (omega (arith, h.depth)) h.sound h.symbols)
+module _ (name role : List ℕ) (body : Formula) (text : List ℕ) (e : text ≡ printed_item name role body) (h : IsPrintable name role body) where
+  is_read : IsReadAnswer text (Ok (printed_as name role body ∷ []))
+  is_read = subst (λ (x : List ℕ). IsReadAnswer x (Ok (printed_as name role body ∷ []))) (sym e) (printed_is_read name role body h)
 
-pub returns-clause-spells : goal.returns-clause-spells
-returns-clause-spells c = printable_spells c.args.name.now c.args.role.now c.args.formula.now c.in_ok-text.text.items c.in_ok-text.ensures
+  only : (answer : Result (List Item) TptpFault) → IsReadAnswer text answer → (answer ≡ Ok (printed_as name role body ∷ [])) ⊎ (answer ≡ Err Memory)
+  only answer reads = only_printed name role body h answer (subst (λ (x : List ℕ). IsReadAnswer x answer) e reads)
+
+pub returns-clause-reads : goal.returns-clause-reads
+returns-clause-reads c = is_read c.args.name.now c.args.role.now c.args.formula.now c.in_ok-text.text.items c.in_ok-text.ensures
+
+pub returns-clause-only : goal.returns-clause-only
+returns-clause-only c = only c.args.name.now c.args.role.now c.args.formula.now c.in_ok-text.text.items c.in_ok-text.ensures

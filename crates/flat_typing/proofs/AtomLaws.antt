@@ -36,7 +36,8 @@ use Rattle.flat_typing.specs.Views.{problem_signature}
 use Rattle.flat_typing.proofs.BaseClauses.{clause_of_formula, clause_of_step, hypothesis_clause, step_clause, structural_formula}
 use Rattle.flat_typing.proofs.FlatHypotheses.{AreFlat, every_got}
 use Rattle.flat_typing.proofs.FlatTrees.{FlatTree, flat_atom, flat_false, flat_not, flat_or}
-use Rattle.flat_typing.proofs.SymbolLaws.{AreDeclared, IsIn, after_prelude, every_parts, names_same, problem_declared}
+use Rattle.dk_syntax.proofs.SymbolLaws.{names_same}
+use Rattle.flat_typing.proofs.SymbolLaws.{AreDeclared, IsIn, after_prelude, every_parts, problem_declared}
 
 -- the atoms of a clause have the property
 abbrev HasAtoms : (List ℕ → Type 0) → List Literal → Type 0

@@ -12,6 +12,7 @@ use Rattle.dk_syntax.specs.declared.Named.{Named}
 use Rattle.dk_syntax.specs.declared.Problem.{Problem}
 use Rattle.dk_syntax.specs.declared.SymKey.{SymKey}
 use Rattle.dk_syntax.proofs.FormulaLaws.{occurrences-Atom, occurrences-Not, occurrences-Or}
+use Rattle.dk_syntax.proofs.SymbolLaws.{symbols_same}
 use Rattle.flat_development.specs.Clauses.{atom_symbol}
 use Rattle.lp_term.specs.Identifiers.{identifier_of}
 use Rattle.lp_term.specs.LambdaPi.{Term}
@@ -24,33 +25,6 @@ use Rattle.flat_typing.specs.Views.{gives_proposition, problem_signature, theory
 use Rattle.flat_typing.proofs.FlatHypotheses.{AreFlat}
 use Rattle.flat_typing.proofs.FlatTrees.{FlatTree, both_true, flat_atom, flat_false, flat_not, flat_or}
 use Rattle.flat_typing.proofs.FormulaViews.{theory-Atom, theory-False, theory-Not, theory-Or}
-
--- ---- when two symbols are one
-
-pub names_same : (m n : List ℕ) → pointwise nat_eq m n ≡ true → m ≡ n
-names_same [] [] e = refl
-names_same [] (b ∷ n) e = absurd cc
-names_same (a ∷ m) [] e = absurd cc
-names_same (a ∷ m) (b ∷ n) e =
-    let parts = both_true (nat_eq a b) (pointwise nat_eq m n) e in
-    let first = (Decides-eqb a b).0 parts.0 in
-    let rest = names_same m n parts.1 in
-    cc
-
-kinds_same : (a b : Kind) → same_kind a b ≡ true → a ≡ b
-kinds_same Function Function e = refl
-kinds_same Function Predicate e = absurd cc
-kinds_same Predicate Function e = absurd cc
-kinds_same Predicate Predicate e = refl
-
-symbols_same : (a b : SymKey) → same_symbol a b ≡ true → a ≡ b
-symbols_same a b e =
-    let parts = both_true (pointwise nat_eq a.name b.name && nat_eq a.arity b.arity) (same_kind a.kind b.kind) e in
-    let more = both_true (pointwise nat_eq a.name b.name) (nat_eq a.arity b.arity) parts.0 in
-    let names = names_same a.name b.name more.0 in
-    let arities = (Decides-eqb a.arity b.arity).0 more.1 in
-    let kinds = kinds_same a.kind b.kind parts.1 in
-    λ i. record { name = names i; arity = arities i; kind = kinds i }
 
 -- ---- what symbols declare
 

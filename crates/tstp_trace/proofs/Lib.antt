@@ -1,4 +1,5 @@
 pub mod SourceLaws
+pub mod KeyLaws
 pub mod NameLaws
 pub mod DistinctLaws
 pub mod FitLaws

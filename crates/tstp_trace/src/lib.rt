@@ -10,8 +10,8 @@
 //! derived step has one parent, or two that differ where it is neither a negation nor a Skolem step. Formulas
 //! are those of the items.
 //!
-//! The cost is linear in the items, with names looked up by hashes, but for the symbols of a problem, which
-//! cost their occurrences times their number. Calls nest as deep as the inferences of a source.
+//! The cost is linear in the items, with names and symbols looked up by hashes, but for the symbols of one
+//! formula, which cost their occurrences times their number. Calls nest as deep as the inferences of a source.
 #![tactic(auto)]
 
 mod derivations;
@@ -20,6 +20,7 @@ mod names;
 mod problems;
 mod sources;
 mod step;
+mod symbols;
 mod traces;
 mod words;
 

@@ -4,13 +4,15 @@
 ghost use Rattle.std.specs.Prelude.{◌≡◌, ◌++◌, ◌∷◌, [], map, Some, if◌then◌else◌, IfOk, OnOk};
 ghost use Rattle.dk_syntax.specs.Problems.{formula_of, symbols_of_formulas};
 ghost use Rattle.dk_syntax.specs.Symbols.{formula_occurrences, joined, with_symbols};
+ghost use Rattle.tstp_trace.specs.Keys.{symbols_in};
 ghost use Rattle.tstp_trace.specs.Names.{AreDistinct, bytes_of, with_name};
 ghost use Rattle.tstp_trace.specs.Problems as spec;
 
 use crate::fault::ProblemFault;
 use crate::names::{add_name, number_of};
+use crate::symbols::{Key, add_symbols_of, listed};
 use crate::words::is_word;
-use dk_syntax::{Named, NoMemory, Problem, Seq, SymKey, add_formula};
+use dk_syntax::{Named, NoMemory, Problem, Seq, SymKey};
 use indexmap::IndexSet;
 use std::alloc::Global;
 use tptp_text::{Body, Item};
@@ -73,12 +75,16 @@ fn named_of(
 }
 
 /// Adds the symbols of the formula that may be there.
-fn add_symbols(alloc: Global, seen: &mut Seq<SymKey>, named: &Option<Named>) -> Result<(), NoMemory>
-    ensures { OnOk result (seen.new ≡ with_symbols seen.old (joined (map formula_occurrences (formula_of named.now)))) }
+fn add_symbols(
+    alloc: Global,
+    keys: &mut IndexSet<Key>,
+    named: &Option<Named>,
+) -> Result<(), NoMemory>
+    ensures { OnOk result (symbols_in keys.new.keys ≡ with_symbols (symbols_in keys.old.keys) (joined (map formula_occurrences (formula_of named.now)))) }
 {
     match named {
         None => Ok(()),
-        Some(named) => add_formula(alloc, seen, &named.formula),
+        Some(named) => add_symbols_of(alloc, keys, &named.formula),
     }
 }
 
@@ -90,12 +96,13 @@ fn symbols_of_all(
 ) -> Result<Seq<SymKey>, NoMemory>
     ensures { IfOk result (λ all. all ≡ symbols_of_formulas (map (λ named. named.formula) hyps.now ++ formula_of conjecture.now)) }
 {
-    let mut seen = Seq::from_vec(Vec::new(alloc));
+    let mut keys = IndexSet::new(alloc);
     for named in hyps {
-        add_formula(alloc, &mut seen, &named.formula)?;
+        add_symbols_of(alloc, &mut keys, &named.formula)?;
     }
-    add_symbols(alloc, &mut seen, conjecture)?;
-    Ok(seen)
+    add_symbols(alloc, &mut keys, conjecture)?;
+    let symbols = listed(alloc, &keys)?;
+    Ok(symbols)
 }
 
 /// Puts the formula among the hypotheses or in the conjecture's place.

@@ -8,6 +8,7 @@ pub mod FormulaEquations
 pub mod ListTotals
 pub mod LoweringLaws
 pub mod MarkLaws
+pub mod MatrixLaws
 pub mod NumberedRows
 pub mod PutValue
 pub mod SoundLists

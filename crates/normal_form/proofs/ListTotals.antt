@@ -103,16 +103,6 @@ counted = form_induction Counted
     (ap (λ z. length (z.1 n r)) q ∙ (g (n + 1) (n ∷ r)).0 ∙ sym (ap (λ z. z.0) t), ap (λ z. literals_in (z.1 n r)) q ∙ (g (n + 1) (n ∷ r)).1 ∙ sym (ap (λ z. z.1) t)))
     (λ a g n r. (let q : length ((rows_of (nf.Ex a)).1 n r) ≡ (totals (nf.Ex a)).0 = grind (arith, common_steps, of_forms) in q, let q : literals_in ((rows_of (nf.Ex a)).1 n r) ≡ (totals (nf.Ex a)).1 = grind (arith, common_steps, of_forms) in q))
 
-pub empty : {A : Type 0} (xs : List A) → length xs ≡ 0 → xs ≡ []
-empty [] e = refl
-empty (x ∷ xs) e = absurd (omega arith)
-
--- a form whose number of clauses is 0 has no rows
-pub no_rows : (a : Nf) → capped (totals a).0 ≡ 0 → (next : ℕ) (around : List ℕ) → (rows_of a).1 next around ≡ []
-no_rows a none next around =
-    let counted_so = (counted a next around).0 in
-    let zero_clauses : (totals a).0 ≡ 0 = omega arith in empty ((rows_of a).1 next around) (counted_so ∙ zero_clauses)
-
 -- numbering the variables keeps the literals
 literals-rows : (rows : List Raw) → literal_count (map row_of rows) ≡ literals_in rows
 literals-rows [] = refl

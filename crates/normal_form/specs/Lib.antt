@@ -4,6 +4,7 @@ pub mod Existentials
 pub mod Faults
 pub mod Lowered
 pub mod Marks
+pub mod Matrices
 pub mod Normal
 pub mod Occurrence
 pub mod Renaming

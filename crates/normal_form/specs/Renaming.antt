@@ -1,5 +1,5 @@
 -- New numbers for variables.
-use Rattle.std.specs.Prelude.{ℕ, ◌+◌, nat_eq, if◌then◌else◌, List, [], ◌∷◌, get_or, map}
+use Rattle.std.specs.Prelude.{ℕ, ◌+◌, nat_eq, if◌then◌else◌, List, [], ◌∷◌, get_or, map, reverse}
 use Rattle.dk_syntax.specs.declared.Literal.{Literal}
 use Rattle.dk_syntax.specs.declared.Term.{Term, Term-F, fold-Term}
 use Rattle.dk_syntax.specs.declared.Term.TheOpen as term
@@ -30,7 +30,7 @@ abbrev pub place_of : List ℕ → ℕ → ℕ
 place_of [] n = 0
 place_of (m ∷ rest) n = if nat_eq m n then 0 else 1 + place_of rest n
 
--- the two ways to find a variable's new number in a list
-abbrev pub new_number : Naming → List ℕ → ℕ → ℕ
-new_number Owner = owner
-new_number Place = place_of
+-- the two ways to find a variable's new number
+abbrev pub new_number : Naming → ℕ → ℕ
+new_number (Owner around) = owner (reverse around.now)
+new_number (Place universals) = place_of universals.now.keys

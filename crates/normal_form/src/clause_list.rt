@@ -79,12 +79,12 @@ pub fn clauses_suffice<D>(nf: &Nf, list: &ClauseList)
 fn build(alloc: Global, nf: &Nf) -> Result<Seq<ClauseRow>, NoMemory>
     ensures { IfOk result (λ rows. rows ≡ clause_rows nf.now) }
 {
-    let raw = raw_rows(alloc, nf, 0, &[])?;
-    number_rows(alloc, &raw)
+    let raw = raw_rows(alloc, nf)?;
+    number_rows(alloc, raw)
 }
 
-fn number_rows(alloc: Global, raw: &[Raw]) -> Result<Seq<ClauseRow>, NoMemory>
-    ensures { IfOk result (λ rows. rows ≡ map row_of raw.now) }
+fn number_rows(alloc: Global, raw: Vec<Raw>) -> Result<Seq<ClauseRow>, NoMemory>
+    ensures { IfOk result (λ rows. rows ≡ map row_of raw.items) }
 {
     let mut rows = Seq::from_vec(Vec::new(alloc));
     for one in raw {

@@ -1,48 +1,41 @@
 //! Variables by first occurrence.
 #![tactic(auto, using(crate::proofs::FirstNumbers::number_steps))]
 
-ghost use Rattle.std.specs.Prelude.{◌≡◌, ◌↔◌, map, IfOk, IsTrue, OnOk, length};
+ghost use Rattle.std.specs.Prelude.{◌≡◌, map, IfOk, OnOk};
 ghost use Rattle.dk_syntax.specs.Symbols.{joined};
-ghost use Rattle.normal_form.specs.ClauseLists.{has_number, literal_variables, quants_of, row_of, variables_of, with_number, with_numbers};
+ghost use Rattle.normal_form.specs.ClauseLists.{literal_variables, quants_of, row_of, variables_of, with_number, with_numbers};
 
 use crate::clause_list::ClauseRow;
 use crate::raw::Raw;
-use crate::rename::rename_literals;
+use crate::rename::{in_range, rename_literals};
 use dk_syntax::{Clause, Literal, NoMemory, Seq, Term};
+use indexmap::IndexSet;
 use std::alloc::Global;
 
 /// A row whose clause has its own variables, numbered by first occurrence.
-pub fn number_row(alloc: Global, raw: &Raw) -> Result<ClauseRow, NoMemory>
-    ensures { IfOk result (λ row. row ≡ row_of raw.now) }
+pub fn number_row(alloc: Global, raw: Raw) -> Result<ClauseRow, NoMemory>
+    ensures { IfOk result (λ row. row ≡ row_of raw) }
 {
-    let quants = universals_in(alloc, raw.lits.as_slice())?;
-    let lits = rename_literals(alloc, raw.lits.as_slice(), quants.as_slice())?;
+    let Raw { lits, picks } = raw;
+    let universals = universals_in(alloc, lits.as_slice())?;
+    let lits = rename_literals(alloc, lits.as_slice(), &universals)?;
     let clause = Clause {
-        vars: count(&quants)?,
+        vars: in_range(universals.len())?,
         lits,
     };
-    let picks = Vec::from_slice(alloc, raw.picks.as_slice())?;
+    let quants = Seq::from_vec(Vec::from_slice(alloc, universals.as_slice())?);
     Ok(ClauseRow {
         clause,
         quants,
-        picks: Seq::from_vec(picks),
+        picks,
     })
 }
 
-fn count(quants: &Seq<u32>) -> Result<u32, NoMemory>
-    ensures { IfOk result (λ number. number ≡ length quants.now) }
-{
-    match u32::try_from(quants.len()) {
-        Ok(number) => Ok(number),
-        Err(_) => Err(NoMemory),
-    }
-}
-
 /// The universals that occur in the literals, by first occurrence.
-fn universals_in(alloc: Global, literals: &[Literal]) -> Result<Seq<u32>, NoMemory>
-    ensures { IfOk result (λ quants. quants ≡ quants_of literals.now) }
+fn universals_in(alloc: Global, literals: &[Literal]) -> Result<IndexSet<u32>, NoMemory>
+    ensures { IfOk result (λ universals. universals.keys ≡ quants_of literals.now) }
 {
-    let mut seen = Seq::from_vec(Vec::new(alloc));
+    let mut seen = IndexSet::new(alloc);
     for literal in literals {
         add_terms(&mut seen, literal.args.as_slice())?;
     }
@@ -50,8 +43,8 @@ fn universals_in(alloc: Global, literals: &[Literal]) -> Result<Seq<u32>, NoMemo
 }
 
 #[cycle(add_term)]
-fn add_term(seen: &mut Seq<u32>, term: &Term) -> Result<(), NoMemory>
-    ensures { OnOk result (seen.new ≡ with_numbers seen.old (variables_of term.now)) }
+fn add_term(seen: &mut IndexSet<u32>, term: &Term) -> Result<(), NoMemory>
+    ensures { OnOk result (seen.new.keys ≡ with_numbers seen.old.keys (variables_of term.now)) }
 {
     match term {
         Term::Var(n) => add_number(seen, *n),
@@ -61,8 +54,8 @@ fn add_term(seen: &mut Seq<u32>, term: &Term) -> Result<(), NoMemory>
 }
 
 #[cycle(add_term)]
-fn add_terms(seen: &mut Seq<u32>, terms: &[Term]) -> Result<(), NoMemory>
-    ensures { OnOk result (seen.new ≡ with_numbers seen.old (joined (map variables_of terms.now))) }
+fn add_terms(seen: &mut IndexSet<u32>, terms: &[Term]) -> Result<(), NoMemory>
+    ensures { OnOk result (seen.new.keys ≡ with_numbers seen.old.keys (joined (map variables_of terms.now))) }
 {
     for term in terms {
         add_term(seen, term)?;
@@ -70,23 +63,9 @@ fn add_terms(seen: &mut Seq<u32>, terms: &[Term]) -> Result<(), NoMemory>
     Ok(())
 }
 
-fn add_number(seen: &mut Seq<u32>, n: u32) -> Result<(), NoMemory>
-    ensures { OnOk result (seen.new ≡ with_number seen.old n) }
+fn add_number(seen: &mut IndexSet<u32>, n: u32) -> Result<(), NoMemory>
+    ensures { OnOk result (seen.new.keys ≡ with_number seen.old.keys n) }
 {
-    if number_in(seen.as_slice(), n) {
-        return Ok(());
-    }
-    seen.push(n)?;
+    seen.insert(n)?;
     Ok(())
-}
-
-fn number_in(numbers: &[u32], n: u32) -> bool
-    ensures { result ≡ has_number numbers.now n }
-{
-    for number in numbers {
-        if *number == n {
-            return true;
-        }
-    }
-    false
 }

@@ -1,62 +1,70 @@
 //! New numbers for variables.
-#![tactic(auto, using(crate::proofs::Steps::form_steps))]
+#![tactic(auto, using(crate::proofs::FirstNumbers::place_steps))]
 
-ghost use Rattle.std.specs.Prelude.{◌≡◌, map, IfOk};
+ghost use Rattle.std.specs.Prelude.{◌≡◌, map, reverse, IfOk};
 ghost use Rattle.normal_form.specs.Renaming.{new_number, owner, place_of, renamed, renamed_literal};
 
-use crate::occurs::inside;
 use dk_syntax::{Literal, NoMemory, Seq, Term};
+use indexmap::IndexSet;
 use std::alloc::Global;
 
-/// How a list gives a variable its new number.
-#[derive(Clone, Copy, Debug)]
-pub enum Naming {
-    /// The list has at place `n` the universal that variable `n` belongs to.
-    Owner,
-    /// The list has universals at the places that are their new numbers.
-    Place,
+/// How a variable gets its new number.
+#[derive(Clone, Copy)]
+pub enum Naming<'a> {
+    /// The universal that it belongs to, where those around are listed, the inmost last.
+    Owner(&'a [u32]),
+    /// The place of its universal in the set.
+    Place(&'a IndexSet<u32>),
 }
 
 fn owner_in(around: &[u32], n: u32) -> u32
-    ensures { result ≡ owner around.now n }
+    ensures { result ≡ owner (reverse around.now) n }
 {
-    match around.get(n as usize) {
-        Some(universal) => *universal,
-        None => 0,
+    let from_last = n as usize;
+    if from_last < around.len() {
+        around[around.len() - 1 - from_last]
+    } else {
+        0
     }
 }
 
-fn place_in(quants: &[u32], n: u32) -> Result<u32, NoMemory>
-    ensures { IfOk result (λ place. place ≡ place_of quants.now n) }
+fn index_in(universals: &IndexSet<u32>, n: u32) -> usize
+    ensures { result ≡ place_of universals.now.keys n }
 {
-    let mut place = 0;
-    for universal in quants {
-        if *universal == n {
-            return Ok(place);
-        }
-        place = inside(place)?;
+    match universals.get_index_of(&n) {
+        Some(index) => index,
+        None => universals.len(),
     }
-    Ok(place)
 }
 
-fn rename(n: u32, naming: Naming, table: &[u32]) -> Result<u32, NoMemory>
-    ensures { IfOk result (λ new. new ≡ new_number naming table.now n) }
+/// The number, where it is in the range of variables.
+pub fn in_range(number: usize) -> Result<u32, NoMemory>
+    ensures { IfOk result (λ same. same ≡ number) }
+{
+    match u32::try_from(number) {
+        Ok(same) => Ok(same),
+        Err(_) => Err(NoMemory),
+    }
+}
+
+fn rename(n: u32, naming: Naming<'_>) -> Result<u32, NoMemory>
+    ensures { IfOk result (λ new. new ≡ new_number naming.entry n) }
 {
     match naming {
-        Naming::Owner => Ok(owner_in(table, n)),
-        Naming::Place => place_in(table, n),
+        Naming::Owner(around) => Ok(owner_in(around, n)),
+        Naming::Place(universals) => in_range(index_in(universals, n)),
     }
 }
 
 #[cycle(rename_term)]
-fn rename_term(alloc: Global, term: &Term, naming: Naming, table: &[u32]) -> Result<Term, NoMemory>
-    ensures { IfOk result (λ new. new ≡ renamed (new_number naming table.now) term.now) }
+fn rename_term(alloc: Global, term: &Term, naming: Naming<'_>) -> Result<Term, NoMemory>
+    ensures { IfOk result (λ new. new ≡ renamed (new_number naming.entry) term.now) }
 {
     match term {
-        Term::Var(n) => Ok(Term::Var(rename(*n, naming, table)?)),
+        Term::Var(n) => Ok(Term::Var(rename(*n, naming)?)),
         Term::App(symbol, args) => {
             let symbol = symbol.copy(alloc)?;
-            let args = rename_terms(alloc, args.as_slice(), naming, table)?;
+            let args = rename_terms(alloc, args.as_slice(), naming)?;
             Ok(Term::App(symbol, args))
         }
         Term::Any => Ok(Term::Any),
@@ -64,17 +72,12 @@ fn rename_term(alloc: Global, term: &Term, naming: Naming, table: &[u32]) -> Res
 }
 
 #[cycle(rename_term)]
-fn rename_terms(
-    alloc: Global,
-    terms: &[Term],
-    naming: Naming,
-    table: &[u32],
-) -> Result<Seq<Term>, NoMemory>
-    ensures { IfOk result (λ all. all ≡ map (renamed (new_number naming table.now)) terms.now) }
+fn rename_terms(alloc: Global, terms: &[Term], naming: Naming<'_>) -> Result<Seq<Term>, NoMemory>
+    ensures { IfOk result (λ all. all ≡ map (renamed (new_number naming.entry)) terms.now) }
 {
     let mut all = Seq::from_vec(Vec::new(alloc));
     for term in terms {
-        all.push(rename_term(alloc, term, naming, table)?)?;
+        all.push(rename_term(alloc, term, naming)?)?;
     }
     Ok(all)
 }
@@ -82,29 +85,28 @@ fn rename_terms(
 pub fn rename_literal(
     alloc: Global,
     literal: &Literal,
-    naming: Naming,
-    table: &[u32],
+    naming: Naming<'_>,
 ) -> Result<Literal, NoMemory>
-    ensures { IfOk result (λ new. new ≡ renamed_literal (new_number naming table.now) literal.now) }
+    ensures { IfOk result (λ new. new ≡ renamed_literal (new_number naming.entry) literal.now) }
 {
     Ok(Literal {
         positive: literal.positive,
         pred: literal.pred.copy(alloc)?,
-        args: rename_terms(alloc, literal.args.as_slice(), naming, table)?,
+        args: rename_terms(alloc, literal.args.as_slice(), naming)?,
     })
 }
 
-/// The literals with the place in the list as each variable's number.
+/// The literals with the place in the set as each variable's number.
 pub fn rename_literals(
     alloc: Global,
     literals: &[Literal],
-    quants: &[u32],
+    universals: &IndexSet<u32>,
 ) -> Result<Seq<Literal>, NoMemory>
-    ensures { IfOk result (λ all. all ≡ map (renamed_literal (place_of quants.now)) literals.now) }
+    ensures { IfOk result (λ all. all ≡ map (renamed_literal (place_of universals.now.keys)) literals.now) }
 {
     let mut all = Seq::from_vec(Vec::new(alloc));
     for literal in literals {
-        all.push(rename_literal(alloc, literal, Naming::Place, quants)?)?;
+        all.push(rename_literal(alloc, literal, Naming::Place(universals))?)?;
     }
     Ok(all)
 }

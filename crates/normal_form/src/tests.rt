@@ -39,13 +39,45 @@ fn tower(alloc: Global, height: u32) -> Result<Formula, NoMemory> {
     Ok(formula)
 }
 
-// q|(q|(q|q)) to the right of a tower
-fn wide(alloc: Global) -> Result<Formula, NoMemory> {
-    let mut formula = plain(alloc, "q")?;
-    for _ in 0..3 {
+// q|(q|..|last)
+fn chain(alloc: Global, length: u32, last: Formula) -> Result<Formula, NoMemory> {
+    let mut formula = last;
+    for _ in 0..length {
         formula = or(alloc, plain(alloc, "q")?, formula)?;
     }
-    or(alloc, tower(alloc, 12)?, formula)
+    Ok(formula)
+}
+
+// q|(q|(q|q)) to the right of a tower
+fn wide(alloc: Global) -> Result<Formula, NoMemory> {
+    let chain = chain(alloc, 3, plain(alloc, "q")?)?;
+    or(alloc, tower(alloc, 12)?, chain)
+}
+
+// p of this many constants
+fn long_atom(alloc: Global, length: u32) -> Result<Formula, NoMemory> {
+    let mut args = Vec::new(alloc);
+    for _ in 0..length {
+        let constant = SymKey {
+            name: Name::new(vec![in alloc; b'c']?),
+            arity: 0,
+            kind: Kind::Function,
+        };
+        args.push(Term::App(constant, Seq::from_vec(Vec::new(alloc))))?;
+    }
+    atom(alloc, "p", args)
+}
+
+// long atoms, a&(a&..)
+fn long_atoms(alloc: Global, count: u32) -> Result<Formula, NoMemory> {
+    let mut formula = long_atom(alloc, 4000)?;
+    for _ in 1..count {
+        formula = Formula::And(
+            Boxed::new(alloc, long_atom(alloc, 4000)?)?,
+            Boxed::new(alloc, formula)?,
+        );
+    }
+    Ok(formula)
 }
 
 // p of these arguments under universals
@@ -162,5 +194,30 @@ fn first_occurrence(rt: HostRuntime) -> Result<(), Fail> {
 fn deep(rt: HostRuntime) -> Result<(), Fail> {
     let form = form_of(rt.alloc(), true, 0, 998)?;
     assert!(rt; nf_eq(&form, &form_of(rt.alloc(), true, 0, 1)?));
+    Ok(())
+}
+
+// 64 clauses of 1,001 literals, whose last ones aren't copied at each of the thousand disjunctions
+#[test]
+fn long_clauses(rt: HostRuntime) -> Result<(), Fail> {
+    let formula = chain(rt.alloc(), 1000, long_atoms(rt.alloc(), 64)?)?;
+    let list = list_of(rt.alloc(), true, &formula)?;
+    let text = shown(rt.alloc(), &list)?;
+    assert!(rt; text.len() == 64 * 2002 + 2016 + 63);
+    assert!(rt;
+        text.ends_with(b"+q+pRRRRRRRRRRRRRRRRRRRRRRRRRRRRRRRRRRRRRRRRRRRRRRRRRRRRRRRRRRRRRRR")
+    );
+    Ok(())
+}
+
+// a thousand million clauses beside $true
+#[test]
+fn nothing_listed(rt: HostRuntime) -> Result<(), Fail> {
+    let mut formula = Formula::True;
+    for _ in 0..3 {
+        formula = or(rt.alloc(), tower(rt.alloc(), 10)?, formula)?;
+    }
+    let list = list_of(rt.alloc(), true, &formula)?;
+    assert!(rt; list.rows.is_empty());
     Ok(())
 }

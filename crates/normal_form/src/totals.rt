@@ -1,9 +1,9 @@
 //! Sizes of clause lists, counted without building them.
 #![tactic(auto, using(crate::proofs::ListTotals::total_steps))]
 
-ghost use Rattle.std.specs.Prelude.{◌≡◌, ◌*◌, ◌↔◌, ℕ, List, [], IsTrue};
+ghost use Rattle.std.specs.Prelude.{◌≡◌, ◌*◌};
 ghost use Rattle.dk_syntax.specs.Depth.{capped};
-ghost use Rattle.normal_form.specs.ClauseLists.{rows_of, totals};
+ghost use Rattle.normal_form.specs.ClauseLists.{totals};
 
 use crate::form::Nf;
 
@@ -57,12 +57,4 @@ fn product(a: u64, b: u64) -> u64
     ensures { result ≡ capped (a * b) }
 {
     a.saturating_mul(b)
-}
-
-/// Whether the list has no clause, though a part of the form may have many.
-pub fn lists_nothing(nf: &Nf) -> bool
-    ensures count { IsTrue result ↔ ((totals nf.now).0 ≡ 0) }
-    ensures rows { IsTrue result → (next : ℕ) (around : List ℕ) → (rows_of nf.now).1 next around ≡ [] }
-{
-    count_rows(nf).clauses == 0
 }

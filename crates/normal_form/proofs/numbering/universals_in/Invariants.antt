@@ -5,4 +5,4 @@ use Rattle.normal_form.proofs.numbering.universals_in.Given as goal
 
 -- with the variables of what is left the list is the one that the loop makes
 abbrev pub invariant-loop-literal : goal.invariant-loop-literal
-invariant-loop-literal l = with_numbers l.seen (joined (map literal_variables (drop l.literal-index l.literals))) ≡ quants_of l.literals
+invariant-loop-literal l = with_numbers l.seen.keys (joined (map literal_variables (drop l.literal-index l.literals))) ≡ quants_of l.literals

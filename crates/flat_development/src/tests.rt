@@ -8,13 +8,13 @@ use lp_text::print;
 use std::alloc::Global;
 use std::test::Fail;
 
-// Where an instance comes from.
+// Where an instance comes from. A pick is a digit.
 #[derive(Clone, Copy)]
-enum Row<'a> {
+enum Row {
     Leaf(u32),
     Same(u32),
-    Subsume(u32, &'a [u32]),
-    Resolve(u32, u32, &'a [u32], &'a [u32]),
+    Subsume(u32, &'static str),
+    Resolve(u32, u32, &'static str, &'static str),
 }
 
 fn name(alloc: Global, letter: u8) -> Result<Name, NoMemory> {
@@ -30,24 +30,52 @@ fn atom(alloc: Global, letter: u8) -> Result<Formula, NoMemory> {
     Ok(Formula::Atom(symbol, Seq::from_vec(Vec::new(alloc))))
 }
 
-fn not(alloc: Global, letter: u8) -> Result<Formula, NoMemory> {
-    Ok(Formula::Not(Boxed::new(alloc, atom(alloc, letter)?)?))
+// The formula on top of the stack, or `$false` where it is empty.
+fn top(stack: &mut Vec<Formula>) -> Formula {
+    stack.pop().unwrap_or(Formula::False)
 }
 
-fn or(alloc: Global, a: Formula, b: Formula) -> Result<Formula, NoMemory> {
-    Ok(Formula::Or(Boxed::new(alloc, a)?, Boxed::new(alloc, b)?))
+// One byte of a formula that is read from its end.
+fn read(alloc: Global, stack: &mut Vec<Formula>, byte: u8) -> Result<(), NoMemory> {
+    let made = match byte {
+        b'~' => Formula::Not(Boxed::new(alloc, top(stack))?),
+        b'|' => {
+            let left = Boxed::new(alloc, top(stack))?;
+            Formula::Or(left, Boxed::new(alloc, top(stack))?)
+        }
+        b'$' => Formula::False,
+        letter => atom(alloc, letter)?,
+    };
+    stack.push(made)?;
+    Ok(())
 }
 
-fn problem(alloc: Global, formulas: Vec<Formula>) -> Result<Problem, NoMemory> {
-    let mut hyps = Vec::new(alloc);
+// The formula of a text such as `|p~q`: marks stand before what they join, atoms are single letters.
+fn formula(alloc: Global, text: &str) -> Result<Formula, NoMemory> {
+    let mut stack = Vec::new(alloc);
+    for byte in text.as_bytes().iter().rev() {
+        read(alloc, &mut stack, *byte)?;
+    }
+    Ok(top(&mut stack))
+}
+
+fn hypothesis(alloc: Global, text: &str) -> Result<Named, NoMemory> {
+    Ok(Named {
+        name: name(alloc, b'a')?,
+        formula: formula(alloc, text)?,
+    })
+}
+
+fn problem(alloc: Global, texts: &[&str]) -> Result<Problem, NoMemory> {
+    let mut hyps = Seq::from_vec(Vec::new(alloc));
     let mut symbols = Seq::from_vec(Vec::new(alloc));
-    for formula in formulas {
-        add_formula(alloc, &mut symbols, &formula)?;
-        let name = name(alloc, b'a')?;
-        hyps.push(Named { name, formula })?;
+    for text in texts {
+        let one = hypothesis(alloc, text)?;
+        add_formula(alloc, &mut symbols, &one.formula)?;
+        hyps.push(one)?;
     }
     Ok(Problem {
-        hyps: Seq::from_vec(hyps),
+        hyps,
         conjecture: None,
         symbols,
     })
@@ -69,8 +97,12 @@ fn clause(alloc: Global, text: &str) -> Result<Seq<Literal>, NoMemory> {
     Ok(literals)
 }
 
-fn picks(alloc: Global, picks: &[u32]) -> Result<Seq<u32>, NoMemory> {
-    Ok(Seq::from_vec(Vec::from_slice(alloc, picks)?))
+fn picks(alloc: Global, digits: &str) -> Result<Seq<u32>, NoMemory> {
+    let mut picks = Seq::from_vec(Vec::new(alloc));
+    for digit in digits.as_bytes() {
+        picks.push(u32::from(digit.saturating_sub(b'0')))?;
+    }
+    Ok(picks)
 }
 
 fn base(alloc: Global, row: Row) -> Result<Base, NoMemory> {
@@ -99,20 +131,29 @@ fn instance(alloc: Global, text: &str, row: Row) -> Result<Instance, NoMemory> {
     })
 }
 
-// The text of a development after the prelude's.
-fn text(alloc: Global, formulas: Vec<Formula>, rows: &[(&str, Row)]) -> Result<Vec<u8>, NoMemory> {
-    let problem = problem(alloc, formulas)?;
+fn instances(alloc: Global, rows: &[(&str, Row)]) -> Result<Seq<Instance>, NoMemory> {
     let mut instances = Seq::from_vec(Vec::new(alloc));
     for (clause, row) in rows {
         instances.push(instance(alloc, clause, *row)?)?;
     }
-    let whole = print(alloc, &development(alloc, &problem, &instances)?)?;
+    Ok(instances)
+}
+
+// How many bytes the prelude has.
+fn prelude_bytes(alloc: Global) -> Result<usize, NoMemory> {
     let commands = prelude(alloc)?;
-    let before = print(alloc, &Dev { commands })?;
-    match whole.as_slice().get(before.len()..) {
-        Some(after) => Ok(Vec::from_slice(alloc, after)?),
-        None => Ok(whole),
-    }
+    let text = print(alloc, &Dev { commands })?;
+    Ok(text.len())
+}
+
+// The text of a development after the prelude's.
+fn text(alloc: Global, texts: &[&str], rows: &[(&str, Row)]) -> Result<Vec<u8>, NoMemory> {
+    let problem = problem(alloc, texts)?;
+    let instances = instances(alloc, rows)?;
+    let whole = print(alloc, &development(alloc, &problem, &instances)?)?;
+    let before = prelude_bytes(alloc)?;
+    let after = whole.as_slice().get(before..).unwrap_or(b"");
+    Ok(Vec::from_slice(alloc, after)?)
 }
 
 const CONTRADICTION: &str = "constant symbol p0_p : Prop;
@@ -170,81 +211,59 @@ fn contradiction_and_falsity(rt: HostRuntime) -> Result<(), Fail> {
     let rows = [
         ("p", Row::Leaf(0)),
         ("~p", Row::Leaf(1)),
-        ("", Row::Resolve(0, 1, &[0], &[0])),
+        ("", Row::Resolve(0, 1, "0", "0")),
     ];
-    let formulas = vec![in alloc; atom(alloc, b'p')?, not(alloc, b'p')?]?;
-    let made = text(alloc, formulas, &rows)?;
+    let made = text(alloc, &["p", "~p"], &rows)?;
     assert_eq!(rt; made.as_slice(), CONTRADICTION.as_bytes());
-    let made = text(
-        alloc,
-        vec![in alloc; Formula::False]?,
-        &[("", Row::Leaf(0))],
-    )?;
+    let made = text(alloc, &["$"], &[("", Row::Leaf(0))])?;
     assert_eq!(rt; made.as_slice(), FALSITY.as_bytes());
     Ok(())
 }
 
 #[test]
 fn two_cases(rt: HostRuntime) -> Result<(), Fail> {
-    let alloc = rt.alloc();
     let rows = [
         ("p|q", Row::Leaf(0)),
         ("~p", Row::Leaf(1)),
         ("~q", Row::Leaf(2)),
-        ("q", Row::Resolve(0, 1, &[1, 0], &[1])),
-        ("", Row::Resolve(3, 2, &[0], &[0])),
+        ("q", Row::Resolve(0, 1, "10", "1")),
+        ("", Row::Resolve(3, 2, "0", "0")),
     ];
-    let first = or(alloc, atom(alloc, b'p')?, atom(alloc, b'q')?)?;
-    let formulas = vec![in alloc; first, not(alloc, b'p')?, not(alloc, b'q')?]?;
-    let made = text(alloc, formulas, &rows)?;
+    let made = text(rt.alloc(), &["|pq", "~p", "~q"], &rows)?;
     assert_eq!(rt; made.as_slice(), CASES.as_bytes());
     Ok(())
 }
 
 #[test]
 fn many_pivots(rt: HostRuntime) -> Result<(), Fail> {
-    let alloc = rt.alloc();
     let rows = [
         ("p|q|p", Row::Leaf(0)),
         ("~p|~p", Row::Leaf(1)),
         ("~q", Row::Leaf(2)),
-        ("q", Row::Resolve(0, 1, &[1, 0, 1], &[1, 1])),
+        ("q", Row::Resolve(0, 1, "101", "11")),
         ("q", Row::Same(3)),
-        ("~p|q", Row::Subsume(4, &[1])),
-        ("~p", Row::Resolve(5, 2, &[0, 1], &[1])),
+        ("~p|q", Row::Subsume(4, "1")),
+        ("~p", Row::Resolve(5, 2, "01", "1")),
         ("p", Row::Leaf(3)),
-        ("", Row::Resolve(7, 6, &[0], &[0])),
+        ("", Row::Resolve(7, 6, "0", "0")),
     ];
-    let front = or(alloc, atom(alloc, b'p')?, atom(alloc, b'q')?)?;
-    let first = or(alloc, front, atom(alloc, b'p')?)?;
-    let second = or(alloc, not(alloc, b'p')?, not(alloc, b'p')?)?;
-    let formulas = vec![in alloc; first, second, not(alloc, b'q')?, atom(alloc, b'p')?]?;
-    let made = text(alloc, formulas, &rows)?;
+    let made = text(rt.alloc(), &["||pqp", "|~p~p", "~q", "p"], &rows)?;
     assert_eq!(rt; made.as_slice(), PIVOTS.as_bytes());
     Ok(())
 }
 
 #[test]
 fn nested_to_the_right(rt: HostRuntime) -> Result<(), Fail> {
-    let alloc = rt.alloc();
     let rows = [
         ("p|q|r", Row::Leaf(0)),
         ("~p", Row::Leaf(1)),
         ("~q", Row::Leaf(2)),
         ("~r", Row::Leaf(3)),
-        ("q|r", Row::Resolve(0, 1, &[2, 0, 1], &[2])),
-        ("r", Row::Resolve(4, 2, &[1, 0], &[1])),
-        ("", Row::Resolve(5, 3, &[0], &[0])),
+        ("q|r", Row::Resolve(0, 1, "201", "2")),
+        ("r", Row::Resolve(4, 2, "10", "1")),
+        ("", Row::Resolve(5, 3, "0", "0")),
     ];
-    let back = or(alloc, atom(alloc, b'q')?, atom(alloc, b'r')?)?;
-    let first = or(alloc, atom(alloc, b'p')?, back)?;
-    let others = vec![in alloc;
-        first,
-        not(alloc, b'p')?,
-        not(alloc, b'q')?,
-        not(alloc, b'r')?,
-    ]?;
-    let made = text(alloc, others, &rows)?;
+    let made = text(rt.alloc(), &["|p|qr", "~p", "~q", "~r"], &rows)?;
     assert_eq!(rt; made.as_slice(), NESTED.as_bytes());
     Ok(())
 }
@@ -253,13 +272,15 @@ fn nested_to_the_right(rt: HostRuntime) -> Result<(), Fail> {
 #[test]
 fn long_development(rt: HostRuntime) -> Result<(), Fail> {
     let alloc = rt.alloc();
-    let mut formulas = Vec::new(alloc);
-    let mut instances = Seq::from_vec(Vec::new(alloc));
+    let mut texts = Vec::new(alloc);
+    let mut rows = Vec::new(alloc);
     for place in 0..10_000 {
-        formulas.push(atom(alloc, b'p')?)?;
-        instances.push(instance(alloc, "p", Row::Leaf(place))?)?;
+        texts.push("p")?;
+        rows.push(("p", Row::Leaf(place)))?;
     }
-    let dev = development(alloc, &problem(alloc, formulas)?, &instances)?;
+    let problem = problem(alloc, texts.as_slice())?;
+    let instances = instances(alloc, rows.as_slice())?;
+    let dev = development(alloc, &problem, &instances)?;
     assert_eq!(rt; dev.commands.len(), 25);
     Ok(())
 }

@@ -1,6 +1,8 @@
 pub mod AgreeingValues
 pub mod BoolLaws
 pub mod Counting
+pub mod DraftLaws
+pub mod DroppedNumbers
 pub mod FirstNumbers
 pub mod FormEquations
 pub mod FormInduction

@@ -1,5 +1,6 @@
 pub mod ClauseLists
 pub mod ClauseTruth
+pub mod Drafts
 pub mod Existentials
 pub mod Faults
 pub mod Lowered

@@ -48,6 +48,13 @@ fn copy_boxed(alloc: Global, form: &Boxed<Nf>) -> Result<Boxed<Nf>, NoMemory>
     Ok(Boxed::new(alloc, form.get().copy(alloc)?)?)
 }
 
+/// The form in a box, in which it is handed on: so the recursions that build it take little room on the stack.
+pub fn boxed(alloc: Global, form: Nf) -> Result<Boxed<Nf>, NoMemory>
+    ensures { IfOk result (λ boxed. boxed ≡ form) }
+{
+    Ok(Boxed::new(alloc, form)?)
+}
+
 /// Whether two forms are one. It takes no memory.
 pub fn nf_eq(a: &Nf, b: &Nf) -> bool
     ensures { IsTrue result ↔ (a.now ≡ b.now) }

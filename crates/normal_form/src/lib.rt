@@ -8,21 +8,20 @@
 //! existentials is wherever its clauses are.
 //!
 //! Sizes are counted before anything is built, in time linear in the formula or form: one walk finds the
-//! variables that occur together with the nodes. Building a form takes time linear in it, but that each part is
-//! walked once for each quantifier around, and copied once for each of these that is dropped. A clause list
-//! takes time linear in the form and the list: what lists nothing is left out before any clause is made, a
-//! clause is copied only where two come of it, and universals are looked up by hashes. All goes down the trees
-//! by recursion.
+//! variables that occur together with the nodes. Building a form takes time linear in the formula whose
+//! equivalences have doubled their sides: one walk marks the quantifiers whose variables don't occur, and the
+//! next leaves them out and numbers the variables as it meets them. A clause list takes time linear in the form
+//! and the list: what lists nothing is left out before any clause is made, a clause is copied only where two
+//! come of it, and universals are looked up by hashes. All goes down the trees by recursion.
 #![tactic(auto)]
 
 mod clause_list;
 mod count;
+mod draft;
 mod form;
-mod lower;
 mod marks;
 mod matrix;
 mod numbering;
-mod occurs;
 mod raw;
 mod rename;
 mod signed_form;

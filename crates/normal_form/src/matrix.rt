@@ -6,8 +6,7 @@ ghost use Rattle.normal_form.specs.ClauseLists.{pairs_of, raw, rows_of, taking};
 ghost use Rattle.normal_form.specs.Matrices.{rows_in};
 
 use crate::form::Nf;
-use crate::occurs::inside;
-use crate::rename::{Naming, rename_literal};
+use crate::rename::{Naming, inside, rename_literal};
 use dk_syntax::{Boxed, Literal, NoMemory};
 use std::alloc::Global;
 

@@ -1,8 +1,8 @@
 //! New numbers for variables.
 #![tactic(auto, using(crate::proofs::FirstNumbers::place_steps))]
 
-ghost use Rattle.std.specs.Prelude.{◌≡◌, map, reverse, IfOk};
-ghost use Rattle.normal_form.specs.Renaming.{new_number, owner, place_of, renamed, renamed_literal};
+ghost use Rattle.std.specs.Prelude.{◌≡◌, ◌+◌, map, reverse, IfOk};
+ghost use Rattle.normal_form.specs.Renaming.{kept_number, new_number, owner, place_of, renamed, renamed_literal};
 
 use dk_syntax::{Literal, NoMemory, Seq, Term};
 use indexmap::IndexSet;
@@ -15,6 +15,9 @@ pub enum Naming<'a> {
     Owner(&'a [u32]),
     /// The place of its universal in the set.
     Place(&'a IndexSet<u32>),
+    /// Less the quantifiers between it and its own that are dropped: for each quantifier around, the inmost last,
+    /// how many were dropped before its body, and how many are by now.
+    Kept(&'a [u32], u32),
 }
 
 fn owner_in(around: &[u32], n: u32) -> u32
@@ -47,12 +50,27 @@ pub fn in_range(number: usize) -> Result<u32, NoMemory>
     }
 }
 
+fn kept_in(around: &[u32], dropped: u32, n: u32) -> u32
+    ensures { result ≡ kept_number (reverse around.now) dropped n }
+{
+    let between = dropped.saturating_sub(owner_in(around, n));
+    n.saturating_sub(between)
+}
+
+/// The number of a variable under one more quantifier.
+pub fn inside(k: u32) -> Result<u32, NoMemory>
+    ensures { IfOk result (λ inner. inner ≡ k + 1) }
+{
+    k.checked_add(1).ok_or(NoMemory)
+}
+
 fn rename(n: u32, naming: Naming<'_>) -> Result<u32, NoMemory>
     ensures { IfOk result (λ new. new ≡ new_number naming.entry n) }
 {
     match naming {
         Naming::Owner(around) => Ok(owner_in(around, n)),
         Naming::Place(universals) => in_range(index_in(universals, n)),
+        Naming::Kept(around, dropped) => Ok(kept_in(around, dropped, n)),
     }
 }
 
@@ -71,8 +89,13 @@ fn rename_term(alloc: Global, term: &Term, naming: Naming<'_>) -> Result<Term, N
     }
 }
 
+/// The terms with a new number for each variable.
 #[cycle(rename_term)]
-fn rename_terms(alloc: Global, terms: &[Term], naming: Naming<'_>) -> Result<Seq<Term>, NoMemory>
+pub fn rename_terms(
+    alloc: Global,
+    terms: &[Term],
+    naming: Naming<'_>,
+) -> Result<Seq<Term>, NoMemory>
     ensures { IfOk result (λ all. all ≡ map (renamed (new_number naming.entry)) terms.now) }
 {
     let mut all = Seq::from_vec(Vec::new(alloc));

@@ -80,13 +80,38 @@ fn long_atoms(alloc: Global, count: u32) -> Result<Formula, NoMemory> {
     Ok(formula)
 }
 
-// p of these arguments under universals
-fn closed(alloc: Global, args: Vec<Term>, universals: u32) -> Result<Formula, NoMemory> {
-    let mut formula = atom(alloc, "p", args)?;
+fn under(alloc: Global, universals: u32, body: Formula) -> Result<Formula, NoMemory> {
+    let mut formula = body;
     for _ in 0..universals {
         formula = all(alloc, formula)?;
     }
     Ok(formula)
+}
+
+// p of these arguments under universals
+fn closed(alloc: Global, args: Vec<Term>, universals: u32) -> Result<Formula, NoMemory> {
+    under(alloc, universals, atom(alloc, "p", args)?)
+}
+
+// two to this power of q
+fn many(alloc: Global, power: u32) -> Result<Formula, NoMemory> {
+    let mut formula = plain(alloc, "q")?;
+    for _ in 0..power {
+        let copy = formula.copy(alloc)?;
+        formula = or(alloc, copy, formula)?;
+    }
+    Ok(formula)
+}
+
+// p of every other variable
+fn every_other(alloc: Global, variables: u32) -> Result<Formula, NoMemory> {
+    let mut args = Vec::new(alloc);
+    for number in 0..variables {
+        if number % 2 == 0 {
+            args.push(Term::Var(number))?;
+        }
+    }
+    atom(alloc, "p", args)
 }
 
 fn node_fault(alloc: Global, height: u32) -> Result<Option<NfFault>, NoMemory> {
@@ -194,6 +219,20 @@ fn first_occurrence(rt: HostRuntime) -> Result<(), Fail> {
 fn deep(rt: HostRuntime) -> Result<(), Fail> {
     let form = form_of(rt.alloc(), true, 0, 998)?;
     assert!(rt; nf_eq(&form, &form_of(rt.alloc(), true, 0, 1)?));
+    Ok(())
+}
+
+// 900 universals, of which every other one is dropped, over a form of 65,537 nodes
+#[test]
+fn many_quantifiers(rt: HostRuntime) -> Result<(), Fail> {
+    let used = every_other(rt.alloc(), 900)?;
+    let body = or(rt.alloc(), used, many(rt.alloc(), 15)?)?;
+    let list = list_of(rt.alloc(), true, &under(rt.alloc(), 900, body)?)?;
+    let mut inmost_first = Vec::new(rt.alloc());
+    for universal in (0..450).rev() {
+        inmost_first.push(universal)?;
+    }
+    assert!(rt; has_quants(&list, inmost_first.as_slice()));
     Ok(())
 }
 

@@ -5,4 +5,5 @@ pub mod Loops
 pub mod Pairs
 pub mod Pivots
 pub mod Steps
+pub mod SymbolLaws
 pub mod Uniqueness

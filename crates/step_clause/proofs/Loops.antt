@@ -59,3 +59,7 @@ module _ (X : Type 0) (P : X → Type 0) (items : List X) where
 
   pub item_at : (i : ℕ) (x : X) → All P items → i < length items → x ≡ get_or items i x → P x
   item_at i x all l is = subst P (sym is) (all i x l)
+
+-- no item below p has the property
+abbrev pub NoneTo : {X : Type 0} → (X → Type 0) → List X → ℕ → Type 0
+NoneTo P items p = (q : ℕ) (x : _) → q < p → slice_get items q ≡ Some x → P x → ⊥

@@ -3,3 +3,4 @@ pub mod Justifications
 pub mod Places
 pub mod Search
 pub mod Slots
+pub mod Symbols

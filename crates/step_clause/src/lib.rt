@@ -8,8 +8,11 @@
 //! this form. All variables of each clause have to be below its number of variables, which `is_numbered` tells.
 //!
 //! The search goes literal by literal with the bindings of the literals before, and goes no further where a literal
-//! fails. It tests sign and symbol before it copies the bindings. In the worst case it takes time exponential in the
-//! number of literals, as subsumption does; it goes down by one recursion a literal.
+//! fails. It tests sign and symbol before it copies the bindings. It is not begun where signs and symbols leave no room:
+//! a literal that has none of its sign and symbol in the target has to be a pivot, and all pivots are of one symbol.
+//! That is asked again of the literals after the first pivot, and before each choice whether a pivot that is wanted may
+//! still come. In the worst case the search takes time exponential in the number of literals, as subsumption does; it
+//! goes down by one recursion a literal.
 #![tactic(auto)]
 
 mod justification;
@@ -20,6 +23,7 @@ mod resolution;
 mod search;
 mod slots;
 mod subsumption;
+mod symbols;
 mod values;
 
 pub use justification::Justification;

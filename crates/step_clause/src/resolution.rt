@@ -7,7 +7,7 @@ ghost use Rattle.step_clause.specs.Slots.{both_wanted, slot_of};
 
 use crate::justification::Justification;
 use crate::places::Place;
-use crate::search::{Found, search};
+use crate::search::{Found, least_picks};
 use crate::slots::{Pivots, Side, add_slots};
 use crate::values::closed_values;
 use dk_syntax::{Clause, NoMemory, Seq};
@@ -48,7 +48,7 @@ fn resolving_picks(
         wants_positive: true,
         wants_negative: true,
     };
-    let found = search(alloc, target, &bindings, &pivots, slots.as_slice())?;
+    let found = least_picks(alloc, target, &bindings, &pivots, slots.as_slice())?;
     Ok(found)
 }
 

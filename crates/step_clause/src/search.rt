@@ -6,6 +6,7 @@ ghost use Rattle.step_clause.specs.Justifications.{LiteralsBelow};
 ghost use Rattle.step_clause.specs.Search.{Fits, FitsAfter, FitsAsPivot, IsEnd, IsFound, IsFoundAtLiteral, PivotsBelow, SameAtom, SlotsBelow};
 
 use crate::slots::{Pivots, Slot};
+use crate::symbols::{may_fit, pivots_may_come, symbols_allow};
 use dk_syntax::{Clause, Literal, NoMemory, Seq, Term};
 use std::alloc::Global;
 use unifier::{Bindings, extend_terms};
@@ -166,6 +167,9 @@ fn search_pivot(
             Ok(found)
         }
         None => {
+            if !may_fit(target, &next, rest) {
+                return Ok(None);
+            }
             let found = search(alloc, target, s, &next, rest)?;
             Ok(found)
         }
@@ -174,7 +178,7 @@ fn search_pivot(
 
 /// The least picks for the literals, the target's literals before the pivot.
 #[cycle(search)]
-pub fn search(
+fn search(
     alloc: Global,
     target: &Clause,
     s: &Bindings,
@@ -187,6 +191,9 @@ pub fn search(
     requires below_slots { SlotsBelow (length s.now.terms) slots.now }
     ensures { IfOk result (λ answer. IsFound target.now.vars (λ r qs. Fits r target.now.lits pivots.now slots.now qs) s.now.terms answer) }
 {
+    if !pivots_may_come(pivots, slots) {
+        return Ok(None);
+    }
     match slots.split_first() {
         None => {
             let end = at_end(alloc, s, pivots)?;
@@ -209,4 +216,26 @@ pub fn search(
             }
         }
     }
+}
+
+/// The same, with no search where signs and symbols tell that there are none.
+pub fn least_picks(
+    alloc: Global,
+    target: &Clause,
+    s: &Bindings,
+    pivots: &Pivots,
+    slots: &[Slot],
+) -> Result<Option<Found>, NoMemory>
+    requires sound { Sound target.now.vars s.now.terms }
+    requires below_target { LiteralsBelow (length s.now.terms) target.now.lits }
+    requires below_pivots { PivotsBelow (length s.now.terms) pivots.now.first }
+    requires below_slots { SlotsBelow (length s.now.terms) slots.now }
+    ensures { IfOk result (λ answer. IsFound target.now.vars (λ r qs. Fits r target.now.lits pivots.now slots.now qs) s.now.terms answer) }
+{
+    let allowed = symbols_allow(alloc, target, pivots, slots)?;
+    if !allowed {
+        return Ok(None);
+    }
+    let found = search(alloc, target, s, pivots, slots)?;
+    Ok(found)
 }

@@ -7,7 +7,7 @@ ghost use Rattle.step_clause.specs.Slots.{none_wanted, slot_of};
 
 use crate::justification::Justification;
 use crate::places::Place;
-use crate::search::{Found, search};
+use crate::search::{Found, least_picks};
 use crate::slots::{Pivots, Side, add_slots};
 use crate::values::closed_values;
 use dk_syntax::{Clause, NoMemory, Seq};
@@ -38,7 +38,7 @@ fn subsuming_picks(
         wants_positive: false,
         wants_negative: false,
     };
-    let found = search(alloc, target, &bindings, &pivots, slots.as_slice())?;
+    let found = least_picks(alloc, target, &bindings, &pivots, slots.as_slice())?;
     Ok(found)
 }
 

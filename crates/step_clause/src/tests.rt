@@ -307,3 +307,64 @@ fn nothing_follows(rt: HostRuntime) -> Result<(), Fail> {
     assert!(rt; found.is_none());
     Ok(())
 }
+
+// the literals, and then q(X1)|..|q(Xn)
+fn with_many(alloc: Global, count: u32, mut lits: Vec<Literal>) -> Result<Clause, NoMemory> {
+    for k in 0..count {
+        lits.push(one(alloc, true, "q", Term::Var(k))?)?;
+    }
+    Ok(clause(count, lits))
+}
+
+// p(X1)|q(X1)|..|q(Xn)
+fn headed(alloc: Global, count: u32) -> Result<Clause, NoMemory> {
+    let head = one(alloc, true, "p", Term::Var(0))?;
+    let all = with_many(alloc, count, vec![in alloc; head]?)?;
+    Ok(all)
+}
+
+// without p, q(X1)|..|q(X12) follows from no clause p(X1)|q(X1)|..|q(X12): no literal cuts p. There are 12^12 ways to
+// pick the literals before the second clause's p
+#[test]
+fn nothing_to_pick(rt: HostRuntime) -> Result<(), Fail> {
+    let alloc = rt.alloc();
+    let first = headed(alloc, 12)?;
+    let second = headed(alloc, 12)?;
+    let lists = parents(alloc, first, second)?;
+    let target = with_many(alloc, 12, Vec::new(alloc))?;
+    let found = answer(alloc, &target, &lists)?;
+    assert!(rt; found.is_none());
+    Ok(())
+}
+
+// q(X1)|..|q(Xn)|p(X1)
+fn tailed(alloc: Global, count: u32) -> Result<Clause, NoMemory> {
+    let mut lits = Vec::new(alloc);
+    for k in 0..count {
+        lits.push(one(alloc, true, "q", Term::Var(k))?)?;
+    }
+    lits.push(one(alloc, true, "p", Term::Var(0))?)?;
+    Ok(clause(count, lits))
+}
+
+// ~r(X)|~p(X)
+fn two_denied(alloc: Global) -> Result<Clause, NoMemory> {
+    let first = one(alloc, false, "r", Term::Var(0))?;
+    let second = one(alloc, false, "p", Term::Var(0))?;
+    let lits = vec![in alloc; first, second]?;
+    Ok(clause(1, lits))
+}
+
+// without p and r, q(X1)|..|q(X12) follows from no q(X1)|..|q(X12)|p(X1) and ~r(X)|~p(X): both p and r would have to be
+// pivots. There are 12^12 ways to pick the literals before p
+#[test]
+fn pivots_of_two_symbols(rt: HostRuntime) -> Result<(), Fail> {
+    let alloc = rt.alloc();
+    let first = tailed(alloc, 12)?;
+    let second = two_denied(alloc)?;
+    let lists = parents(alloc, first, second)?;
+    let target = with_many(alloc, 12, Vec::new(alloc))?;
+    let found = answer(alloc, &target, &lists)?;
+    assert!(rt; found.is_none());
+    Ok(())
+}

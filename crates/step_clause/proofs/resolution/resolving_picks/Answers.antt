@@ -9,17 +9,17 @@ use Rattle.step_clause.specs.Slots.{both_wanted, slot_of}
 use Rattle.step_clause.proofs.Pairs.{literals_below_more, slots_below, slots_below_both}
 use Rattle.step_clause.proofs.resolution.resolving_picks.Goals as goal
 
-pub search-requires-clause-sound : goal.search-requires-clause-sound
-search-requires-clause-sound c = subst (Sound c.args.target.now.vars) (sym c.in_ok-bindings.ensures.terms) (unbound_sound c.args.target.now.vars c.in_ok-count.count)
+pub least_picks-requires-clause-sound : goal.least_picks-requires-clause-sound
+least_picks-requires-clause-sound c = subst (Sound c.args.target.now.vars) (sym c.in_ok-bindings.ensures.terms) (unbound_sound c.args.target.now.vars c.in_ok-count.count)
 
-pub search-requires-clause-below_target : goal.search-requires-clause-below_target
-search-requires-clause-below_target c =
+pub least_picks-requires-clause-below_target : goal.least_picks-requires-clause-below_target
+least_picks-requires-clause-below_target c =
     let e : c.in_ok-count.count ≡ c.args.target.now.vars + c.args.first.now.vars + c.args.second.now.vars = grind (arith, common_steps) in
     let m = ap length c.in_ok-bindings.ensures.terms ∙ length-replicate c.in_ok-count.count None in
     literals_below_more c.args.target.now.vars (length c.in_ok-bindings.bindings.terms) (omega arith) c.args.target.now.lits c.requires.target
 
-pub search-requires-clause-below_slots : goal.search-requires-clause-below_slots
-search-requires-clause-below_slots c =
+pub least_picks-requires-clause-below_slots : goal.least_picks-requires-clause-below_slots
+least_picks-requires-clause-below_slots c =
     let d : c.in_ok-from.from ≡ c.args.target.now.vars + c.args.first.now.vars = grind (arith, common_steps) in
     let e : c.in_ok-count.count ≡ c.args.target.now.vars + c.args.first.now.vars + c.args.second.now.vars = grind (arith, common_steps) in
     let m = ap length c.in_ok-bindings.ensures.terms ∙ length-replicate c.in_ok-count.count None in

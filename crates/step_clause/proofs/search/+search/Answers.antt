@@ -5,6 +5,7 @@ use Rattle.unifier.specs.Substitution.{EachBelow, substituted}
 use Rattle.step_clause.specs.Justifications.{LiteralsBelow}
 use Rattle.unifier.specs.Outcomes.{Outcome}
 use Rattle.step_clause.proofs.Choices.{below_first, below_rest, below_item, below_after, atoms_found, after_signs, first_found, none_more, none_at_literal, pivot_first, pivot_again, at_some, at_pivot}
+use Rattle.step_clause.proofs.SymbolLaws.{none_allowed_after, none_comes}
 use Rattle.step_clause.specs.Search.{FitsAfter, IsFound, PivotsBelow, SlotsBelow}
 use Rattle.step_clause.proofs.search.+search.Goals as goal
 
@@ -49,6 +50,11 @@ search-search_pivot-requires t c =
         ),
       ),
     )
+
+pub search-returns-then-not-pivots_may_come : goal.search-returns-then-not-pivots_may_come
+search-returns-then-not-pivots_may_come t c =
+    none_comes c.args.target.now.vars c.args.target.now.lits c.args.pivots.now c.args.slots.now c.args.s.now.terms
+    (λ h. let a = c.pivots_may_come.ensures.1 h in let b = c.if-not-pivots_may_come.true in cc)
 
 pub search-returns-in-Some-found : goal.search-returns-in-Some-found
 search-returns-in-Some-found t c =
@@ -154,6 +160,11 @@ pub search_pivot-returns-in-Some : goal.search_pivot-returns-in-Some
 search_pivot-returns-in-Some t c =
     pivot_again c.args.target.now.vars c.args.target.now.lits c.args.pivots.now c.in_ok-next.next c.args.slot.now c.in-Some.first c.args.rest.now c.args.s.now.terms c.in_ok-found-in-Some.found
     c.if-not-slot.false c.in-Some.is c.in_ok-next.ensures c.in_ok-found-in-Some.ensures
+
+pub search_pivot-returns-then-not-may_fit : goal.search_pivot-returns-then-not-may_fit
+search_pivot-returns-then-not-may_fit t c =
+    none_allowed_after c.args.target.now.vars c.args.target.now.lits c.args.pivots.now c.in_ok-next.next c.args.slot.now c.args.rest.now c.args.s.now.terms c.in_ok-next.ensures
+    (λ h. let a = c.may_fit.ensures.1 h in let b = c.if-not-may_fit.true in cc)
 
 pub search_pivot-search-requires : goal.search_pivot-search-requires
 search_pivot-search-requires t c =

@@ -32,11 +32,7 @@ fn add_symbol(alloc: Global, keys: &mut IndexSet<Key>, symbol: &SymKey) -> Resul
     Ok(())
 }
 
-fn add_symbols(
-    alloc: Global,
-    keys: &mut IndexSet<Key>,
-    symbols: &[SymKey],
-) -> Result<(), NoMemory>
+fn add_symbols(alloc: Global, keys: &mut IndexSet<Key>, symbols: &[SymKey]) -> Result<(), NoMemory>
     ensures { OnOk result (symbols_in keys.new.keys ≡ with_symbols (symbols_in keys.old.keys) symbols.now) }
 {
     for symbol in symbols {

@@ -1,5 +1,5 @@
 -- What contracts see of the objects in memory.
-use Rattle.std.specs.Prelude.{◌≡◌, ◌≢◌, ◌↔◌, AllPairs, ℕ, ◌+◌, ◌-◌, ◌^◌, ◌<◌, List, [], ◌∷◌, Contains, None, Some, if◌then◌else◌, bytes_eq, string_bytes, slice_get}
+use Rattle.std.specs.Prelude.{◌≡◌, ◌≢◌, ◌↔◌, AllPairs, ℕ, ◌+◌, ◌-◌, ◌^◌, ◌<◌, ◌⊎◌, max, length, List, [], ◌∷◌, Contains, None, Some, if◌then◌else◌, bytes_eq, string_bytes, slice_get}
 use Rattle.std.specs.Option.{option_map_or}
 use Rattle.dk_io.specs.Outside.{Told, Tells}
 use Rattle.std.specs.declared.option.Option.{Option}
@@ -36,10 +36,15 @@ pub record Counts (fault : Type 0) (old new : CallLog) : Type 0 where
 abbrev pub File : Type 0
 File = List ℕ × List ℕ
 
--- The files, what is left of the one that was started, and the calls.
+-- How many bytes one call moves at most: a greatest number of 0 is read as 1.
+abbrev pub call_limit : ℕ → ℕ
+call_limit most = max most 1
+
+-- The files, what is left of the one that was started, how many bytes one call gives at most, and the calls.
 pub record Reading : Type 0 where
   pub files : List File
   pub left : List ℕ
+  pub most : ℕ
   pub calls : CallLog
 
 -- The bytes of the first file of this name.
@@ -66,8 +71,29 @@ file_of file = (string_bytes file.0, file.1.items)
 abbrev pub bytes_at : List StoredFile → ℕ → List ℕ
 bytes_at files place = option_map_or (λ file. file.1.items) (slice_get files place) []
 
--- The bytes kept, how many still fit, and the calls.
+-- The bytes that notes kept, how many still fit, and the calls.
 pub record Store : Type 0 where
   pub kept : List ℕ
   pub room : ℕ
   pub calls : CallLog
+
+-- The bytes that a sink kept, how many still fit, how many one call takes at most, the numbers of the calls that
+-- take none, and the calls.
+pub record Taking : Type 0 where
+  pub kept : List ℕ
+  pub room : ℕ
+  pub most : ℕ
+  pub zero : List ℕ
+  pub calls : CallLog
+
+-- The next call is one of those that take none.
+abbrev pub TakesNone : Taking → Type 0
+TakesNone sink = Contains sink.zero (sink.calls.made + 1)
+
+-- No room is left for these bytes, although there are some.
+abbrev pub IsFull : Taking → List ℕ → Type 0
+IsFull sink bytes = (0 < length bytes) × (sink.room ≡ 0)
+
+-- The next call is a fault at these bytes: it is listed, no room is left, or it takes none although there are some.
+abbrev pub FaultsAt : Taking → List ℕ → Type 0
+FaultsAt sink bytes = IsListed sink.calls ⊎ IsFull sink bytes ⊎ (TakesNone sink × (0 < length bytes))

@@ -22,7 +22,8 @@ pub trait Inputs {
     fn start(&mut self, name: &str) -> Result<(), Failed>
         ensures same { told self.new ≡ told self.old }
         ensures starts { OnOk result (Starts (told self.old) name.now (left self.new)) }
-        ensures cause { HasCauseOr (IsAbsent (told self.old) name.now) (faults self.old) (faults self.new) result };
+        ensures cause { HasCauseOr (IsAbsent (told self.old) name.now) (faults self.old)
+            (faults self.new) result };
 
     /// Moves a prefix of what is left into the buffer, and answers its length: 0 for a buffer that
     /// is not empty means that nothing is left.

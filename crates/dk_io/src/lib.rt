@@ -35,6 +35,3 @@ pub use notes::Notes;
 pub use out_sink::OutSink;
 pub use sink::Sink;
 pub use whole::{MAX_BYTES, ReadAll, read_all, write_all};
-
-#[cfg(test)]
-mod tests;

@@ -33,7 +33,8 @@ impl Model for MemNotes {
 impl MemNotes {
     /// Notes with no line. `fail` lists the calls that are to fail, from 1.
     pub fn new(alloc: Global, room: usize, fail: Vec<u64>) -> Result<MemNotes, AllocError>
-        ensures { IfOk result (λ notes. notes ≡ record { kept = []; room = room; calls = no_calls fail.items }) }
+        ensures { IfOk result (λ notes. notes
+            ≡ record { kept = []; room = room; calls = no_calls fail.items }) }
     {
         let text = Vec::with_capacity(alloc, room)?;
         Ok(MemNotes {
@@ -57,7 +58,8 @@ impl Notes for MemNotes {
     ghost faults = { λ notes. notes.calls.faults };
 
     fn line(&mut self, text: &str) -> Result<(), Failed>
-        ensures ok { OnOk result (Appends (Some self.old.kept) (Some self.new.kept) (text.now ++ 10 ∷ [])) }
+        ensures ok { OnOk result (Appends (Some self.old.kept) (Some self.new.kept) (text.now
+            ++ 10 ∷ [])) }
         ensures err { OnErr result (Keeps (Some self.old.kept) (Some self.new.kept)) }
         ensures cause { HasCause self.old.calls.faults self.new.calls.faults result }
 
@@ -67,7 +69,8 @@ impl Notes for MemNotes {
         // newline don't fit.
         ensures fails { CanCount self.old.calls →
             (IsErr result ↔ (IsListed self.old.calls ⊎ (self.old.room ≤ length text.now))) }
-        ensures counts { CanCount self.old.calls → Counts (IsErr result) self.old.calls self.new.calls }
+        ensures counts { CanCount self.old.calls
+            → Counts (IsErr result) self.old.calls self.new.calls }
     {
         let is_full = self.room <= text.len();
         if self.calls.fails(is_full) {

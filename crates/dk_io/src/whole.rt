@@ -55,13 +55,13 @@ pub fn read_all<I: Inputs>(alloc: Global, inputs: &mut I, name: &str) -> Result<
     // One byte more than a file may have shows that it is too long.
     while all.len() <= MAX_BYTES {
         let wanted = STEP.min(MAX_BYTES + 1 - all.len());
-        let Ok(count) = inputs.read(&mut buf[..wanted]) else {
+        let Ok(given) = inputs.read(&mut buf[..wanted]) else {
             return Err(ReadAll::Fault);
         };
-        if count == 0 {
+        if given == 0 {
             return Ok(all);
         }
-        let Ok(()) = all.extend_from_slice(&buf[..count]) else {
+        let Ok(()) = all.extend_from_slice(&buf[..given]) else {
             return Err(ReadAll::Memory);
         };
     }

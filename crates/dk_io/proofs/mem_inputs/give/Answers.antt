@@ -9,8 +9,8 @@ returns-clause-gives c =
     let at = c.args.at in
     let n = c.min-count.result in
     let copied = rw c.split_at.ensures.back at c.copy_from_slice.ensures.after in
-    let some = rw (c.split_at.ensures.back, length-drop) at c.min-count.ensures in
+    let some = rw (c.split_at.ensures.back, length-drop) at c.min.ensures in
     record {
-      bytes = moved file at n c.copy_from_slice.new.self (drop n c.args.buf.now) copied (ap length copied ∙ length-take-le n (drop at file) (omega (arith, some, length-drop at file)));
-      end = λ none room. absurd (omega (arith, some, none, room));
+      bytes = moved file at n c.copy_from_slice.new.self (drop n c.args.buf.now) copied (ap length copied ∙ length-take-le n (drop at file) (omega (arith, some, c.min-count.ensures, length-drop at file)));
+      end = λ none room. absurd (omega (arith, some, c.min-count.ensures, none, room));
     }

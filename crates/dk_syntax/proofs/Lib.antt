@@ -1,4 +1,12 @@
+pub mod BelowLaws
 pub mod FirstOccurrences
 pub mod FormulaLaws
-pub mod TermLaws
+pub mod ListLaws
+pub mod EntryLaws
+pub mod ShapeEquality
+pub mod ShapeLaws
+pub mod SubstitutionLaws
 pub mod SymbolLaws
+pub mod TermLaws
+pub mod TermTableLaws
+pub mod WellFormedLaws

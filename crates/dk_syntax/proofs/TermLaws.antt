@@ -1,25 +1,12 @@
 -- Laws of terms: induction, when two terms are one, and what the definitions say of each kind of term.
-use Rattle.std.proofs.Common.{◌≡◌, ◌+◌, ℕ, List, [], ◌∷◌, map, ap, ap₂, refl, subst, sym, ◌∙◌, rules}
+use Rattle.std.proofs.Common.{◌≡◌, ◌+◌, ℕ, List, [], ◌∷◌, map, ap, subst, sym, ◌∙◌, rules}
+pub use Rattle.dk_syntax.proofs.ListLaws.{ForEach as Each, for_each as each_of, map-for_each as map-each}
 use Rattle.dk_syntax.specs.Depth.{greatest, term_depth_of}
 use Rattle.dk_syntax.specs.Symbols.{joined, term_occurrences}
 use Rattle.dk_syntax.specs.declared.symbol.SymKey.{SymKey}
 use Rattle.dk_syntax.specs.declared.term.Term.{Any, App, Term, Term-F, Var, ind-Term, map-Term, out-Term, roll-Term, the_lemmas as of_terms}
 use Rattle.dk_syntax.specs.declared.term.Term.TheOpen as layer
 use Rattle.dk_syntax.specs.declared.term.Term.TheVariants.{outs-App, outs-Var, rolls-Any, rolls-App, rolls-Var}
-
--- ---- a fact of each item
-
-abbrev pub Each : {A : Type 0} → (A → Type 0) → List A → Type 0
-Each P [] = Unit {0}
-Each P (x ∷ xs) = P x × Each P xs
-
-pub each_of : {A : Type 0} (P : A → Type 0) → ((x : A) → P x) → (xs : List A) → Each P xs
-each_of P f [] = tt
-each_of P f (x ∷ xs) = (f x, each_of P f xs)
-
-pub map-each : {A B : Type 0} (f g : A → B) (xs : List A) → Each (λ x. f x ≡ g x) xs → map f xs ≡ map g xs
-map-each f g [] same = refl
-map-each f g (x ∷ xs) same = ap₂ (λ y ys. y ∷ ys) same.0 (map-each f g xs same.1)
 
 -- ---- induction
 

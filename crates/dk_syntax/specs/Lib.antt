@@ -1,5 +1,10 @@
 pub mod Depth
+pub mod Lists
 pub mod Order
 pub mod Problems
+pub mod Shapes
 pub mod Symbols
+pub mod TermTables
+pub mod Terms
+pub mod WellFormed
 pub mod formers

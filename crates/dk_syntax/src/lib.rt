@@ -4,9 +4,18 @@
 //! so that two trees are equal for a contract exactly where they are equal as trees, wherever they
 //! lie in memory.
 //!
-//! A copy, a comparison, a depth and an order take time linear in the trees, the list of symbols the
-//! number of occurrences times the number of symbols. They go down a tree by recursion, the drop of a
-//! term along its last arguments by a loop. Only the calls that answer want of memory take memory.
+//! A copy, a comparison, a depth, an order and a list of symbols take time linear in the trees: symbols
+//! that were met are looked up by hashes. They go down a tree by recursion, the drop of a term along its
+//! last arguments by a loop. Only the calls that answer want of memory take memory.
+//!
+//! A `TermTable` keeps ground terms with each subterm once, under numbers: a term is put in by its head
+//! and the numbers of its arguments, in time linear in these, and `term` writes the tree out.
+//!
+//! Laws for the crates above stand in `proofs/TermLaws` and `proofs/FormulaLaws` (induction, and what
+//! the definitions say of each kind of tree), `proofs/WellFormedLaws` (what it is to be closed,
+//! well-formed and without `Any`), `proofs/SubstitutionLaws` and `proofs/BelowLaws` (substitution and the
+//! variables of terms), `proofs/SymbolLaws` and `proofs/FirstOccurrences` (symbols and lists of them) and
+//! `proofs/ListLaws` (lists); for those who put terms in a table, in `proofs/TermTableLaws`.
 #![tactic(auto)]
 
 mod alpha;
@@ -22,6 +31,7 @@ mod seq;
 mod symbol;
 mod symbols;
 mod term;
+mod term_table;
 
 pub use alpha::{alpha_eq, same_literal, same_term, same_terms};
 pub use boxed::Boxed;
@@ -34,8 +44,6 @@ pub use order::term_order;
 pub use problem::{Named, Problem};
 pub use seq::{NoRoom, Seq};
 pub use symbol::{Kind, SymKey};
-pub use symbols::{add_formula, has_symbol, symbols_of};
+pub use symbols::{add_formula, copy_symbols, symbols_of};
 pub use term::{Term, copy_terms};
-
-#[cfg(test)]
-mod tests;
+pub use term_table::TermTable;

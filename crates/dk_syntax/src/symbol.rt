@@ -6,7 +6,7 @@ use crate::name::Name;
 use std::alloc::Global;
 
 /// Whether a symbol makes terms or atoms.
-#[derive(Clone, Copy, Debug, PartialEq, Eq)]
+#[derive(Clone, Copy, Debug, PartialEq, Eq, Hash)]
 pub enum Kind {
     Function,
     Predicate,
@@ -14,7 +14,7 @@ pub enum Kind {
 
 /// A symbol: its name, its number of arguments and its kind. Symbols that differ in one of these
 /// are different symbols.
-#[derive(Debug, Drop)]
+#[derive(Debug, Drop, PartialEq, Eq, Hash)]
 pub struct SymKey {
     pub name: Name,
     pub arity: u32,

@@ -1,29 +1,29 @@
-//! The symbols of a formula.
+//! The symbols of formulas, looked up by hashes.
 #![tactic(auto, using(crate::proofs::FirstOccurrences::symbol_steps))]
 
 ghost use Rattle.std.specs.Prelude.{◌≡◌, map, IfOk, OnOk};
-ghost use Rattle.std.specs.List.{list_any};
-ghost use Rattle.dk_syntax.specs.Symbols.{first_symbols, formula_occurrences, joined, same_symbol, term_occurrences, with_symbol, with_symbols};
+ghost use Rattle.dk_syntax.specs.Symbols.{first_symbols, formula_occurrences, joined, term_occurrences, with_symbol, with_symbols};
 
 use crate::formula::Formula;
 use crate::memory::NoMemory;
 use crate::seq::Seq;
 use crate::symbol::SymKey;
 use crate::term::Term;
+use indexmap::IndexSet;
 use std::alloc::Global;
 
 /// Each symbol of a formula once, by first occurrence from left to right, a symbol before its arguments.
 pub fn symbols_of(alloc: Global, f: &Formula) -> Result<Seq<SymKey>, NoMemory>
     ensures { IfOk result (λ all. all ≡ first_symbols f.now) }
 {
-    let mut seen = Seq::from_vec(Vec::new(alloc));
+    let mut seen = IndexSet::new(alloc);
     add_formula(alloc, &mut seen, f)?;
-    Ok(seen)
+    copy_symbols(alloc, seen.as_slice())
 }
 
-/// Adds the symbols of a formula, in order, that are not in the list yet.
-pub fn add_formula(alloc: Global, seen: &mut Seq<SymKey>, f: &Formula) -> Result<(), NoMemory>
-    ensures { OnOk result (seen.new ≡ with_symbols seen.old (formula_occurrences f.now)) }
+/// Adds the symbols of a formula, in order, that are not there yet.
+pub fn add_formula(alloc: Global, seen: &mut IndexSet<SymKey>, f: &Formula) -> Result<(), NoMemory>
+    ensures { OnOk result (seen.new.keys ≡ with_symbols seen.old.keys (formula_occurrences f.now)) }
 {
     match f {
         Formula::True | Formula::False => Ok(()),
@@ -52,8 +52,8 @@ pub fn add_formula(alloc: Global, seen: &mut Seq<SymKey>, f: &Formula) -> Result
 }
 
 #[cycle(add_term)]
-fn add_term(alloc: Global, seen: &mut Seq<SymKey>, term: &Term) -> Result<(), NoMemory>
-    ensures { OnOk result (seen.new ≡ with_symbols seen.old (term_occurrences term.now)) }
+fn add_term(alloc: Global, seen: &mut IndexSet<SymKey>, term: &Term) -> Result<(), NoMemory>
+    ensures { OnOk result (seen.new.keys ≡ with_symbols seen.old.keys (term_occurrences term.now)) }
 {
     match term {
         Term::Var(_) | Term::Any => Ok(()),
@@ -65,8 +65,9 @@ fn add_term(alloc: Global, seen: &mut Seq<SymKey>, term: &Term) -> Result<(), No
 }
 
 #[cycle(add_term)]
-fn add_terms(alloc: Global, seen: &mut Seq<SymKey>, terms: &[Term]) -> Result<(), NoMemory>
-    ensures { OnOk result (seen.new ≡ with_symbols seen.old (joined (map term_occurrences terms.now))) }
+fn add_terms(alloc: Global, seen: &mut IndexSet<SymKey>, terms: &[Term]) -> Result<(), NoMemory>
+    ensures { OnOk result (seen.new.keys ≡ with_symbols seen.old.keys
+        (joined (map term_occurrences terms.now))) }
 {
     for term in terms {
         add_term(alloc, seen, term)?;
@@ -74,30 +75,22 @@ fn add_terms(alloc: Global, seen: &mut Seq<SymKey>, terms: &[Term]) -> Result<()
     Ok(())
 }
 
-fn add_symbol(alloc: Global, seen: &mut Seq<SymKey>, symbol: &SymKey) -> Result<(), NoMemory>
-    ensures { OnOk result (seen.new ≡ with_symbol seen.old symbol.now) }
+fn add_symbol(alloc: Global, seen: &mut IndexSet<SymKey>, symbol: &SymKey) -> Result<(), NoMemory>
+    ensures { OnOk result (seen.new.keys ≡ with_symbol seen.old.keys symbol.now) }
 {
-    if has_symbol(seen.as_slice(), symbol) {
-        return Ok(());
+    if !seen.contains(symbol) {
+        seen.insert(symbol.copy(alloc)?)?;
     }
-    seen.push(symbol.copy(alloc)?)?;
     Ok(())
 }
 
-/// Whether a symbol stands in a list.
-pub fn has_symbol(symbols: &[SymKey], symbol: &SymKey) -> bool
-    ensures { result ≡ list_any (same_symbol symbol.now) symbols.now }
+/// Copies each symbol of a list.
+pub fn copy_symbols(alloc: Global, symbols: &[SymKey]) -> Result<Seq<SymKey>, NoMemory>
+    ensures { IfOk result (λ all. all ≡ symbols.now) }
 {
-    for one in symbols {
-        if is_symbol(symbol, one) {
-            return true;
-        }
+    let mut all = Seq::from_vec(Vec::with_capacity(alloc, symbols.len())?);
+    for symbol in symbols {
+        all.push(symbol.copy(alloc)?)?;
     }
-    false
-}
-
-fn is_symbol(a: &SymKey, b: &SymKey) -> bool
-    ensures { result ≡ same_symbol a.now b.now }
-{
-    a.name.same(&b.name) && a.arity == b.arity && a.kind == b.kind
+    Ok(all)
 }

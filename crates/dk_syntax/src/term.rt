@@ -35,8 +35,10 @@ impl Term {
     /// Takes an application apart. Another term comes back as it is. This is the one way to take a
     /// term apart by value elsewhere, as the drop is written by hand.
     pub fn into_app(self) -> Result<(SymKey, Seq<Term>), Term>
-        ensures parts { MatchResult result (λ parts. self ≡ Term.App parts.0 parts.1) (λ other. other ≡ self) }
-        ensures other { IfErr result (λ other. (symbol : SymKey) (args : List Term) → ¬ other ≡ Term.App symbol args) }
+        ensures parts { MatchResult result (λ parts. self ≡ Term.App parts.0 parts.1)
+            (λ other. other ≡ self) }
+        ensures other { IfErr result (λ other. (symbol : SymKey) (args : List Term)
+            → ¬ other ≡ Term.App symbol args) }
     {
         match self {
             Term::App(symbol, args) => Ok((symbol, args)),

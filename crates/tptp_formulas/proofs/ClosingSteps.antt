@@ -6,7 +6,7 @@ use Rattle.tptp_formulas.proofs.DepthLaws.{depth-for_all, depth-formula_of}
 use Rattle.tptp_formulas.proofs.FewLaws.{few-kept, few-first}
 use Rattle.tptp_formulas.specs.Meaning.{closed_formula, formula_of}
 use Rattle.tptp_formulas.specs.RawDepth.{raw_depth}
-use Rattle.tptp_formulas.specs.Scopes.{Names, free_in, free_names}
+use Rattle.tptp_formulas.specs.Scopes.{free_names}
 use Rattle.tptp_formulas.specs.declared.raw.Raw.{Raw}
 
 pub depth-closed : (f : Raw) → formula_depth (closed_formula f) ≡ length (free_names f) + raw_depth f

@@ -1,5 +1,5 @@
 -- What is in the grammar is read, where nothing follows that it could go on with.
-use Rattle.std.proofs.Common.{◌≡◌, ℕ, zero, suc, ◌+◌, ◌≤◌, ◌<◌, List, [], ◌∷◌, length, Bool, true, false, Option, Some, None, refl, sym, ap, subst, ◌∙◌, arith}
+use Rattle.std.proofs.Common.{◌≡◌, ℕ, zero, suc, ◌≤◌, ◌<◌, List, [], ◌∷◌, length, true, Some, None, refl, ap, ◌∙◌, arith}
 use Rattle.tptp_tokens.specs.declared.Token.{Token}
 use Rattle.tptp_tokens.specs.declared.Token.TheVariants as t
 use Rattle.tptp_formulas.specs.declared.raw.Comparison.{Comparison}
@@ -9,14 +9,13 @@ use Rattle.tptp_formulas.specs.declared.raw.Connective.TheVariants as connective
 use Rattle.tptp_formulas.specs.declared.raw.Link.{Link}
 use Rattle.tptp_formulas.specs.declared.raw.Link.TheVariants as link
 use Rattle.tptp_formulas.specs.declared.raw.Prefix.{Prefix}
-use Rattle.tptp_formulas.specs.declared.raw.Prefix.TheVariants.{Exists, ForAll, Not}
 use Rattle.tptp_formulas.specs.declared.raw.Raw.{Raw}
 use Rattle.tptp_formulas.specs.declared.raw.Raw.TheVariants as raw
 use Rattle.tptp_formulas.specs.declared.raw.RawTerm.{RawTerm, RawTerm-F, out-RawTerm}
 use Rattle.tptp_formulas.specs.declared.raw.RawTerm.TheOpen as layer
 use Rattle.tptp_formulas.specs.declared.raw.RawTerm.TheVariants as term
 use Rattle.tptp_formulas.specs.Grammar.{Application, Atom, Bare, Binary, Bracketed, Chain, Distinct, DollarAtom, DollarTerm, Equation, Existential, InBrackets, IsArguments, IsAtom, IsCore, IsFormula, IsName, IsPrefixes, IsTerm, IsTerms, IsUnit, IsUnits, IsVariables, LastTerm, LastUnit, LastVariable, LowerName, MoreTerms, MoreUnits, MoreVariables, Negated, NoArguments, NoPrefix, Number, OneUnit, Prefixed, QuotedName, Universal, Variable, comparison_mark, connective_mark, link_mark}
-use Rattle.tptp_formulas.specs.Reading.{◌>>=◌, Reader, alone_at, args_at, atom_at, behind, binary_at, chained_at, closed_at, compared_at, comparison_at, connective_at, core_at, formula_at, formula_with, link_at, more_terms, more_units, prefix_at, prefix_more, prefixes_at, prefixes_with, tail_at, tail_with, term_at, term_with, terms_at, unit_at, units_at, vars_at}
+use Rattle.tptp_formulas.specs.Reading.{Reader, alone_at, args_at, atom_at, behind, binary_at, chained_at, closed_at, compared_at, comparison_at, connective_at, core_at, formula_at, formula_with, link_at, more_terms, more_units, prefix_at, prefix_more, prefixes_at, prefixes_with, tail_at, tail_with, term_at, term_with, terms_at, unit_at, units_at, vars_at}
 use Rattle.tptp_formulas.specs.Written.{ends}
 
 -- ---- terms

@@ -6,10 +6,9 @@ use Rattle.dk_syntax.specs.Depth.{formula_depth, greatest, term_depth_of}
 use Rattle.dk_syntax.specs.declared.Formula.{Formula}
 use Rattle.dk_syntax.specs.declared.Formula.TheVariants as formula
 use Rattle.dk_syntax.specs.declared.Kind.TheVariants.{Function, Predicate}
-use Rattle.dk_syntax.specs.declared.Term.{Term}
 use Rattle.tptp_formulas.proofs.RawEquations.{depth-Apply, depth-Atom, depth-Binary, depth-Chain, depth-Distinct, depth-Dollar, depth-DollarTerm, depth-Equation, depth-Number, depth-Unit, depth-Variable, meaning-Apply, meaning-Atom, meaning-Binary, meaning-Chain, meaning-Distinct, meaning-Dollar, meaning-DollarTerm, meaning-Equation, meaning-Number, meaning-Unit, meaning-Variable}
-use Rattle.tptp_formulas.proofs.RawInduction.{raw_induction, raw_term_induction, raw_terms_induction}
-use Rattle.tptp_formulas.specs.Meaning.{chained, connected, constant, exists, for_all, formula_of, linked, number, symbol, term_of, variable, wrapped}
+use Rattle.tptp_formulas.proofs.RawInduction.{raw_induction, raw_term_induction}
+use Rattle.tptp_formulas.specs.Meaning.{chained, connected, exists, for_all, formula_of, linked, number, symbol, term_of, variable, wrapped}
 use Rattle.tptp_formulas.specs.Outside.{is_true}
 use Rattle.tptp_formulas.specs.RawDepth.{chain_depth, connective_depth, prefix_depth, raw_depth, raw_term_depth}
 use Rattle.tptp_formulas.specs.Scopes.{Names, each, names_of}
@@ -20,9 +19,7 @@ use Rattle.tptp_formulas.specs.declared.raw.Link.TheVariants as link
 use Rattle.tptp_formulas.specs.declared.raw.Prefix.{Prefix}
 use Rattle.tptp_formulas.specs.declared.raw.Prefix.TheVariants.{Exists, ForAll, Not}
 use Rattle.tptp_formulas.specs.declared.raw.Raw.{Raw}
-use Rattle.tptp_formulas.specs.declared.raw.Raw.TheVariants as raw
 use Rattle.tptp_formulas.specs.declared.raw.RawTerm.{RawTerm}
-use Rattle.tptp_formulas.specs.declared.raw.RawTerm.TheVariants as term
 
 -- ---- terms
 

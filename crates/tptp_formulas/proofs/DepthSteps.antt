@@ -1,5 +1,5 @@
 -- Depths that are counted up to the greatest `u64`.
-use Rattle.std.proofs.Common.{◌≡◌, ℕ, ◌+◌, List, [], ◌∷◌, max, ◌∙◌, arith}
+use Rattle.std.proofs.Common.{◌≡◌, ℕ, ◌+◌, List, [], ◌∷◌, max, arith}
 use Rattle.std.proofs.lemmas.Grind.{common_steps}
 use Rattle.dk_syntax.specs.Depth.{capped}
 use Rattle.tptp_formulas.specs.RawDepth.{chain_depth}

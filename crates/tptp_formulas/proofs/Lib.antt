@@ -5,6 +5,8 @@ pub mod DepthLaws
 pub mod DepthSteps
 pub mod FewLaws
 pub mod MeaningSteps
+pub mod ProperFormulas
+pub mod ProperTrees
 pub mod RawEquations
 pub mod RawInduction
 pub mod RawSteps
@@ -12,6 +14,4 @@ pub mod ReadingLaws
 pub mod Rooms
 pub mod ScopeSteps
 pub mod Shapes
-pub mod SoundEquations
-pub mod SoundFormulas
 pub mod SoundReading

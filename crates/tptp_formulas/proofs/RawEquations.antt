@@ -1,17 +1,14 @@
 -- What the definitions say of each kind of term and formula as it is written.
-use Rattle.std.proofs.Common.{◌≡◌, ℕ, ◌+◌, List, [], ◌∷◌, ◌++◌, map, length, Option, Some, None, rules}
+use Rattle.std.proofs.Common.{◌≡◌, ℕ, ◌+◌, List, [], ◌∷◌, ◌++◌, map, length, Some, rules}
 use Rattle.dk_syntax.specs.Depth.{greatest}
 use Rattle.dk_syntax.specs.Symbols.{joined}
-use Rattle.dk_syntax.specs.declared.Formula.{Formula}
 use Rattle.dk_syntax.specs.declared.Formula.TheVariants as formula
 use Rattle.dk_syntax.specs.declared.Kind.TheVariants.{Function, Predicate}
-use Rattle.dk_syntax.specs.declared.Term.{Term}
 use Rattle.dk_syntax.specs.declared.Term.TheVariants as dk
 use Rattle.tptp_formulas.specs.Meaning.{chained, connected, constant, formula_of, number, symbol, term_of, variable, wrapped}
-use Rattle.tptp_formulas.specs.Outside.{first_of_two, first_some, outside_dollar, outside_of, outside_term}
+use Rattle.tptp_formulas.specs.Outside.{first_of_two, first_some, outside_of, outside_term}
 use Rattle.tptp_formulas.specs.RawDepth.{chain_depth, connective_depth, prefix_depth, raw_depth, raw_term_depth}
 use Rattle.tptp_formulas.specs.Scopes.{Names, each, free_in, names_of, term_variables, unbound}
-use Rattle.tptp_formulas.specs.declared.body.OutsideKind.{OutsideKind}
 use Rattle.tptp_formulas.specs.declared.body.OutsideKind.TheVariants as kind
 use Rattle.tptp_formulas.specs.declared.raw.Comparison.{Comparison}
 use Rattle.tptp_formulas.specs.declared.raw.Connective.{Connective}

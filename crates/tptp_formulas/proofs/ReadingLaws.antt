@@ -1,9 +1,8 @@
 -- Reading gives exactly what the grammar has, and at most one formula is written at a place.
-use Rattle.std.proofs.Common.{◌≡◌, ℕ, ◌≤◌, List, Bool, true, false, ◌&&◌, if◌then◌else◌, IfOk, length, Option, Some, None, Result, Ok, Err, refl, sym, ap, subst, ◌∙◌, arith}
+use Rattle.std.proofs.Common.{◌≡◌, List, Bool, true, false, ◌&&◌, if◌then◌else◌, IfOk, length, Option, Some, None, Result, Ok, Err, refl, sym, ap, subst, ◌∙◌, arith}
 use Rattle.tptp_tokens.specs.declared.Token.{Token}
 use Rattle.tptp_formulas.specs.declared.body.Lang.{Lang}
 use Rattle.tptp_formulas.specs.declared.fault.ReadError.{ReadError}
-use Rattle.tptp_formulas.specs.declared.fault.ReadError.TheVariants.{Memory, Syntax}
 use Rattle.tptp_formulas.specs.declared.raw.Raw.{Raw}
 use Rattle.tptp_formulas.specs.Grammar.{IsFormula}
 use Rattle.tptp_formulas.specs.Reading.{◌>>=◌, Gives, accepted, formula_at, reading}

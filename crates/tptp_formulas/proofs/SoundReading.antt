@@ -1,16 +1,13 @@
 -- What is read is in the grammar.
-use Rattle.std.proofs.Common.{◌≡◌, ℕ, zero, suc, List, [], ◌∷◌, length, Option, Some, None, refl, sym, ap, subst, ◌∙◌}
+use Rattle.std.proofs.Common.{◌≡◌, ℕ, zero, suc, List, [], ◌∷◌, length, Option, Some, None, refl, sym, subst}
 use Rattle.tptp_tokens.specs.declared.Token.{Token}
 use Rattle.tptp_tokens.specs.declared.Token.TheVariants as t
 use Rattle.tptp_formulas.specs.declared.raw.Comparison.{Comparison}
-use Rattle.tptp_formulas.specs.declared.raw.Comparison.TheVariants as comparison
 use Rattle.tptp_formulas.specs.declared.raw.Connective.{Connective}
 use Rattle.tptp_formulas.specs.declared.raw.Link.{Link}
 use Rattle.tptp_formulas.specs.declared.raw.Link.TheVariants as link
 use Rattle.tptp_formulas.specs.declared.raw.Prefix.{Prefix}
-use Rattle.tptp_formulas.specs.declared.raw.Prefix.TheVariants.{Exists, ForAll, Not}
 use Rattle.tptp_formulas.specs.declared.raw.Raw.{Raw}
-use Rattle.tptp_formulas.specs.declared.raw.Raw.TheVariants as raw
 use Rattle.tptp_formulas.specs.declared.raw.RawTerm.{RawTerm, RawTerm-F, out-RawTerm, roll-RawTerm, the_lemmas as of_terms}
 use Rattle.tptp_formulas.specs.declared.raw.RawTerm.TheOpen as layer
 use Rattle.tptp_formulas.specs.declared.raw.RawTerm.TheVariants as term

@@ -2,8 +2,8 @@ pub mod FewNames
 pub mod Grammar
 pub mod Meaning
 pub mod Outside
+pub mod Proper
 pub mod RawDepth
 pub mod Reading
 pub mod Scopes
-pub mod Soundness
 pub mod Written

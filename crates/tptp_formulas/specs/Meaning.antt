@@ -1,6 +1,6 @@
 -- What a formula as it is written means: names become numbers of quantifiers, chains nest to the left, and free
 -- variables are closed.
-use Rattle.std.specs.Prelude.{◌≡◌, ℕ, nat_lt, Bool, true, false, if◌then◌else◌, List, [], ◌∷◌, ◌++◌, length, map, Option, Some, None, nat_eq}
+use Rattle.std.specs.Prelude.{ℕ, nat_lt, Bool, true, false, if◌then◌else◌, List, [], ◌∷◌, ◌++◌, length, map, Option, Some, None, nat_eq}
 use Rattle.std.specs.Cmp.Lexicographic.{pointwise}
 use Rattle.dk_syntax.specs.Depth.{formula_depth}
 use Rattle.dk_syntax.specs.declared.Formula.{Formula}

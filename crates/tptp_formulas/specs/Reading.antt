@@ -1,5 +1,5 @@
 -- Reading a formula from left to right: what each function that reads gives.
-use Rattle.std.specs.Prelude.{◌≡◌, ℕ, zero, suc, Bool, ◌&&◌, if◌then◌else◌, List, [], ◌∷◌, length, Option, Some, None, Result, Ok, Err}
+use Rattle.std.specs.Prelude.{◌≡◌, ℕ, zero, suc, ◌&&◌, if◌then◌else◌, List, [], ◌∷◌, length, Option, Some, None, Result, Ok, Err}
 use Rattle.tptp_tokens.specs.declared.Token.{Token}
 use Rattle.tptp_tokens.specs.declared.Token.TheVariants as t
 use Rattle.tptp_formulas.specs.declared.body.Lang.{Lang}
@@ -64,6 +64,14 @@ terms_at (suc k) one ts = do
 unfoldable pub args_at : Reader RawTerm → Reader (List RawTerm)
 args_at one (t.OpenRound ∷ ts) = terms_at (length ts) one ts
 args_at one ts = Some ([], ts)
+
+-- a word with the arguments that were read behind it
+abbrev pub applied : List ℕ → Option (List RawTerm × List Token) → Option (RawTerm × List Token)
+applied name read = read >>= λ args. Some (term.Apply name args.0, args.1)
+
+-- a dollar word with them
+abbrev pub dollar_applied : List ℕ → Option (List RawTerm × List Token) → Option (RawTerm × List Token)
+dollar_applied name read = read >>= λ args. Some (term.Dollar name args.0, args.1)
 
 -- a term whose arguments are read by the reader
 unfoldable pub term_with : Reader RawTerm → Reader RawTerm

@@ -1,12 +1,12 @@
 -- What a text of each language may hold, and where it ends.
-use Rattle.std.specs.Prelude.{◌≡◌, ℕ, Bool, true, false, ◌&&◌, if◌then◌else◌, List, [], ◌∷◌, IsTrue}
+use Rattle.std.specs.Prelude.{Bool, true, false, ◌&&◌, if◌then◌else◌, List, [], ◌∷◌, IsTrue}
 use Rattle.tptp_tokens.specs.declared.Token.{Token}
 use Rattle.tptp_tokens.specs.declared.Token.TheVariants as t
 use Rattle.tptp_formulas.specs.declared.body.Lang.{Lang}
 use Rattle.tptp_formulas.specs.declared.body.Lang.TheVariants.{Cnf, Fof, Other}
 use Rattle.tptp_formulas.specs.declared.raw.Link.TheVariants.{And, Or}
 use Rattle.tptp_formulas.specs.declared.raw.Prefix.{Prefix}
-use Rattle.tptp_formulas.specs.declared.raw.Prefix.TheVariants.{Exists, ForAll, Not}
+use Rattle.tptp_formulas.specs.declared.raw.Prefix.TheVariants.{Not}
 use Rattle.tptp_formulas.specs.declared.raw.Raw.{Raw, Raw-F, fold-Raw}
 use Rattle.tptp_formulas.specs.declared.raw.Raw.TheOpen as raw
 use Rattle.tptp_formulas.specs.declared.shape.Shape.{Shape}

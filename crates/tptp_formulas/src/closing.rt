@@ -5,7 +5,7 @@ ghost use Rattle.std.specs.Prelude.{◌≡◌, ◌<◌, ◌≤◌, true, false, 
 ghost use Rattle.dk_syntax.specs.Depth.{formula_depth};
 ghost use Rattle.tptp_formulas.specs.Meaning.{body_of, closed_formula, too_deep};
 ghost use Rattle.tptp_formulas.specs.Scopes.{first_free, free_names};
-ghost use Rattle.tptp_formulas.specs.Soundness.{HasSoundFormula};
+ghost use Rattle.tptp_formulas.specs.Proper.{IfPlain, IsProper};
 
 use crate::body::Body;
 use crate::fault::BodyFault;
@@ -20,7 +20,8 @@ use std::alloc::Global;
 /// The free variables, each once, in order of first occurrence in the text, or `None` where they are
 /// more than 1,000.
 fn free_variables(alloc: Global, raw: &Raw) -> Result<Option<Seq<Name>>, NoMemory>
-    ensures { IfOk result (λ found. MatchOption found (1000 < length (free_names raw.now)) (λ names. names ≡ free_names raw.now)) }
+    ensures { IfOk result (λ found. MatchOption found (1000 < length (free_names raw.now))
+        (λ names. names ≡ free_names raw.now)) }
 {
     let names = few_free(alloc, raw)?;
     if names.len() > 1000 {
@@ -54,13 +55,12 @@ fn close(alloc: Global, raw: &Raw) -> Result<Formula, BodyFault>
 
 /// What the item says: the kind of the formula's first construct outside the profile, or the formula
 /// itself, whose free variables are closed by universal quantifiers, the first that occurs outermost.
-/// No variable of it reaches outside, its symbols have as many arguments as their arity, and it has no
-/// `Any`.
+/// Such a formula is closed and well-formed, and has no `Any`.
 pub fn make_body(alloc: Global, raw: &Raw) -> Result<Body, BodyFault>
     ensures body { IfOk result (λ body. body ≡ body_of raw.now) }
     ensures shallow { OnOk result (too_deep (body_of raw.now) ≡ false) }
     ensures deep { result ≡ Err BodyFault.TooDeep → too_deep (body_of raw.now) ≡ true }
-    ensures sound { IfOk result HasSoundFormula }
+    ensures proper { IfOk result (λ body. IfPlain body IsProper) }
 {
     if let Some(kind) = find_outside(raw) {
         return Ok(Body::Outside(kind));

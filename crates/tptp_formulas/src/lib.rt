@@ -6,7 +6,12 @@
 //! (`specs/Written`); at most one formula is written at a place (`proofs/ReadingLaws`). `make_body` gives
 //! what it means by `specs/Meaning`: the formula with numbers for names, closed by universal quantifiers,
 //! or else the kind of the first construct that is outside the profile (`specs/Outside`). Such a formula is
-//! closed, its symbols have as many arguments as their arity, and it has no `Any` (`specs/Soundness`).
+//! closed and well-formed, and has no `Any` (`specs/Proper`). `specs/Reading`, `specs/RawDepth` and
+//! `specs/FewNames` mirror the code.
+//!
+//! Laws for the crates above stand in `proofs/RawEquations` (what the definitions say of each kind of formula as
+//! it is written), `proofs/ReadingLaws` (what is read), `proofs/ProperTrees` (the fold that joins closed,
+//! well-formed and without `Any`) and `proofs/ProperFormulas` (what is read is so).
 //!
 //! A formula as it is written, `Raw`, is flat where the text is flat. So the recursion of every call, and
 //! of a drop, is bounded by the brackets around a place of the text, which the caller counts before, and
@@ -36,6 +41,3 @@ pub use fault::{BodyFault, ReadError};
 pub use raw::{Comparison, Connective, Link, Prefix, Raw, RawTerm};
 pub use read::read_formula;
 pub use shape::Shape;
-
-#[cfg(test)]
-mod tests;

@@ -1,7 +1,7 @@
 //! From names to numbers.
 #![tactic(auto, using(crate::proofs::MeaningSteps::meaning_steps))]
 
-ghost use Rattle.std.specs.Prelude.{◌≡◌, map, IfOk};
+ghost use Rattle.std.specs.Prelude.{◌≡◌, [], ◌∷◌, map, IfOk};
 ghost use Rattle.tptp_formulas.specs.Meaning.{chained, connected, constant, exists, for_all, formula_of, linked, number, symbol, term_of, wrapped};
 ghost use Rattle.tptp_formulas.specs.Scopes.{each};
 
@@ -128,23 +128,27 @@ fn exist_over(alloc: Global, names: &[Name], f: Formula) -> Result<Formula, NoMe
     Ok(whole)
 }
 
+/// Puts one prefix around the formula.
+#[inline(never)]
+fn wrap_once(alloc: Global, prefix: &Prefix, f: Formula) -> Result<Formula, NoMemory>
+    ensures { IfOk result (λ g. g ≡ wrapped (prefix.now ∷ []) f) }
+{
+    match prefix {
+        Prefix::Not => negate(alloc, f),
+        Prefix::ForAll(names) => close_over(alloc, names.as_slice(), f),
+        Prefix::Exists(names) => exist_over(alloc, names.as_slice(), f),
+    }
+}
+
 /// Puts prefixes around the formula. It goes down the list by recursion, so its length has to be tested.
 fn wrap(alloc: Global, prefixes: &[Prefix], f: Formula) -> Result<Formula, NoMemory>
     ensures { IfOk result (λ g. g ≡ wrapped prefixes.now f) }
 {
     match prefixes {
         [] => Ok(f),
-        [Prefix::Not, rest @ ..] => {
+        [first, rest @ ..] => {
             let f = wrap(alloc, rest, f)?;
-            negate(alloc, f)
-        }
-        [Prefix::ForAll(names), rest @ ..] => {
-            let f = wrap(alloc, rest, f)?;
-            close_over(alloc, names.as_slice(), f)
-        }
-        [Prefix::Exists(names), rest @ ..] => {
-            let f = wrap(alloc, rest, f)?;
-            exist_over(alloc, names.as_slice(), f)
+            wrap_once(alloc, first, f)
         }
     }
 }
@@ -200,7 +204,8 @@ fn chain(
     first: Formula,
     bound: &mut Seq<Name>,
 ) -> Result<Formula, NoMemory>
-    ensures built { IfOk result (λ f. f ≡ chained by first (each bound.old (map formula_of others.now))) }
+    ensures built { IfOk result (λ f. f ≡ chained by first
+        (each bound.old (map formula_of others.now))) }
     ensures bound { IfOk result (λ f. bound.new ≡ bound.old) }
 {
     let mut whole = first;

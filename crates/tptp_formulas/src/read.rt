@@ -54,8 +54,8 @@ fn attempt(alloc: Global, lang: Lang, tokens: &[Token]) -> Result<(Raw, &[Token]
     ensures { Gives (λ x. (x.0, x.1.now)) result (reading lang tokens.now) }
 {
     let (raw, rest) = formula(alloc, tokens.len(), tokens)?;
-    if is_end(rest) && may_hold(lang, &raw) {
-        Ok((raw, rest))
+    if is_end(rest) && may_hold(lang, raw.get()) {
+        Ok((raw.into_inner(), rest))
     } else {
         Err(ReadError::Syntax)
     }
@@ -70,7 +70,9 @@ pub fn read_formula(
 ) -> Result<(Raw, &[Token]), ReadError>
     ensures reads { Gives (λ x. (x.0, x.1.now)) result (reading lang tokens.now) }
     ensures written { IfOk result (λ x. Written lang tokens.now x.0 x.1.now) }
-    ensures only { (f : RawFormula) (after : List Token) → Written lang tokens.now f after → let read : RawFormula × List Token = (f, after) in Gives (λ x. (x.0, x.1.now)) result (Some read) }
+    ensures only { (f : RawFormula) (after : List Token) → Written lang tokens.now f after
+        → let read : RawFormula × List Token = (f, after) in Gives
+        (λ x. (x.0, x.1.now)) result (Some read) }
 {
     attempt(alloc, lang, tokens)
 }

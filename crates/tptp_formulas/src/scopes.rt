@@ -72,7 +72,8 @@ fn add_term(
     term: &RawTerm,
     bound: &[Name],
 ) -> Result<(), NoMemory>
-    ensures { OnOk result (seen.new ≡ few_names seen.old (unbound bound.now (term_variables term.now))) }
+    ensures { OnOk result (seen.new ≡ few_names seen.old
+        (unbound bound.now (term_variables term.now))) }
 {
     match term {
         RawTerm::Variable(name) => {
@@ -94,7 +95,8 @@ fn add_terms(
     terms: &[RawTerm],
     bound: &[Name],
 ) -> Result<(), NoMemory>
-    ensures { OnOk result (seen.new ≡ few_names seen.old (unbound bound.now (joined (map term_variables terms.now)))) }
+    ensures { OnOk result (seen.new ≡ few_names seen.old
+        (unbound bound.now (joined (map term_variables terms.now)))) }
 {
     for term in terms {
         add_term(alloc, seen, term, bound)?;
@@ -145,7 +147,8 @@ fn add_all_free(
     formulas: &[Raw],
     bound: &mut Seq<Name>,
 ) -> Result<(), NoMemory>
-    ensures added { OnOk result (seen.new ≡ few_names seen.old (joined (each bound.old (map free_in formulas.now)))) }
+    ensures added { OnOk result (seen.new
+        ≡ few_names seen.old (joined (each bound.old (map free_in formulas.now)))) }
     ensures bound { OnOk result (bound.new ≡ bound.old) }
 {
     for formula in formulas {

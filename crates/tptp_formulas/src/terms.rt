@@ -2,11 +2,11 @@
 #![tactic(auto, using(crate::proofs::Rooms::term_steps), unfolding(crate::specs::Reading::term_with, crate::specs::Reading::args_at, crate::specs::Reading::more_terms))]
 
 ghost use Rattle.std.specs.Prelude.{length};
-ghost use Rattle.tptp_formulas.specs.Reading.{Gives, args_at, term_at, terms_at};
+ghost use Rattle.tptp_formulas.specs.Reading.{Gives, applied, args_at, dollar_applied, term_at, terms_at};
 
 use crate::fault::ReadError;
 use crate::raw::RawTerm;
-use dk_syntax::Seq;
+use dk_syntax::{Name, Seq};
 use std::alloc::Global;
 use tptp_tokens::Token;
 
@@ -26,23 +26,43 @@ pub fn read_term(
         [Token::Upper(name), rest @ ..] => Ok((RawTerm::Variable(name.copy(alloc)?), rest)),
         [Token::Number(name), rest @ ..] => Ok((RawTerm::Number(name.copy(alloc)?), rest)),
         [Token::Distinct(name), rest @ ..] => Ok((RawTerm::Distinct(name.copy(alloc)?), rest)),
-        [Token::Lower(name), rest @ ..] => {
-            let name = name.copy(alloc)?;
-            let (args, rest) = read_args(alloc, room - 1, rest)?;
-            Ok((RawTerm::Apply(name, args), rest))
-        }
-        [Token::Quoted(name), rest @ ..] => {
-            let name = name.copy(alloc)?;
-            let (args, rest) = read_args(alloc, room - 1, rest)?;
-            Ok((RawTerm::Apply(name, args), rest))
-        }
-        [Token::Dollar(name), rest @ ..] => {
-            let name = name.copy(alloc)?;
-            let (args, rest) = read_args(alloc, room - 1, rest)?;
-            Ok((RawTerm::Dollar(name, args), rest))
-        }
+        [Token::Lower(name), rest @ ..] => read_application(alloc, room - 1, name, rest),
+        [Token::Quoted(name), rest @ ..] => read_application(alloc, room - 1, name, rest),
+        [Token::Dollar(name), rest @ ..] => read_dollar(alloc, room - 1, name, rest),
         _ => Err(ReadError::Syntax),
     }
+}
+
+/// The arguments of a word, and the term that it is with them.
+#[cycle(term)]
+#[inline(never)]
+fn read_application<'a>(
+    alloc: Global,
+    room: usize,
+    name: &Name,
+    tokens: &'a [Token],
+) -> Result<(RawTerm, &'a [Token]), ReadError>
+    ensures { Gives (λ x. (x.0, x.1.now)) result
+        (applied name.now (args_at (term_at room) tokens.now)) }
+{
+    let (args, rest) = read_args(alloc, room, tokens)?;
+    Ok((RawTerm::Apply(name.copy(alloc)?, args), rest))
+}
+
+/// The arguments of a dollar word, and the term that it is with them.
+#[cycle(term)]
+#[inline(never)]
+fn read_dollar<'a>(
+    alloc: Global,
+    room: usize,
+    name: &Name,
+    tokens: &'a [Token],
+) -> Result<(RawTerm, &'a [Token]), ReadError>
+    ensures { Gives (λ x. (x.0, x.1.now)) result
+        (dollar_applied name.now (args_at (term_at room) tokens.now)) }
+{
+    let (args, rest) = read_args(alloc, room, tokens)?;
+    Ok((RawTerm::Dollar(name.copy(alloc)?, args), rest))
 }
 
 /// The arguments, where there are any.
@@ -67,7 +87,8 @@ fn read_terms(
     room: usize,
     tokens: &[Token],
 ) -> Result<(Seq<RawTerm>, &[Token]), ReadError>
-    ensures { Gives (λ x. (x.0, x.1.now)) result (terms_at (length tokens.now) (term_at room) tokens.now) }
+    ensures { Gives (λ x. (x.0, x.1.now)) result
+        (terms_at (length tokens.now) (term_at room) tokens.now) }
 {
     let mut terms = Seq::from_vec(Vec::new(alloc));
     let mut rest = tokens;

@@ -1,3 +1,4 @@
+pub mod BracketLaws
 pub mod ChunkLaws
 pub mod LongestToken
 pub mod Loops

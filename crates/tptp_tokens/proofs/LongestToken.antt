@@ -1,11 +1,11 @@
 -- Reading gives the longest token, and nothing else.
-use Rattle.std.proofs.Common.{◌≡◌, ℕ, ◌≤◌, ◌<◌, Bool, true, false, cond, ◌&&◌, ◌||◌, eqb, leb, List, [], ◌∷◌, ◌++◌, length, take, drop, ◌≢◌, ap₂, take_at, drop_at, Option, Some, None, inl, inr, refl, sym, ap, subst, ◌∙◌, append-nil, arith, length-append}
+use Rattle.std.proofs.Common.{◌≡◌, ℕ, ◌≤◌, ◌<◌, Bool, true, false, cond, ◌&&◌, ◌||◌, eqb, leb, List, [], ◌∷◌, ◌++◌, length, take, drop, ◌≢◌, ap₂, take_at, drop_at, Option, Some, None, MatchOption, Result, Ok, Err, IfOk, inl, inr, refl, sym, ap, subst, ◌∙◌, append-nil, arith, length-append}
 use Rattle.std.proofs.lemmas.List.{nil_from_length}
 use Rattle.std.proofs.lemmas.Bool.{cond_both, eqb-true, eq-eqb, leb-true, lt-leb, and_parts, or_parts, or_cases, cases_Bool, and_left}
 use Rattle.tptp_tokens.specs.Bytes.{is_lower, is_upper, is_digit, is_word, is_sign, is_printable, is_visible, is_escaped, EachByte, IsWord}
 use Rattle.tptp_tokens.specs.Numbers.{IsNumber}
-use Rattle.tptp_tokens.specs.Spelling.{quoted_text, spelling, mark_of, IsDollar, OneSign, TwoSigns, IsOther, IsToken, Longest}
-use Rattle.tptp_tokens.specs.Scan.{before, after, after_dollar, after_number, with_byte, quoted_at, quoted_or, distinct_or, dollar_or, number_or, single_or, less_at, equal_at, bang_at, tilde_at, mark_at, token_at}
+use Rattle.tptp_tokens.specs.Spelling.{quoted_text, spelling, mark_of, IsDollar, OneSign, TwoSigns, IsOther, IsToken, Longest, IsTokenless}
+use Rattle.tptp_tokens.specs.Scan.{before, after, after_dollar, after_number, with_byte, quoted_at, quoted_or, distinct_or, dollar_or, number_or, single_or, less_at, equal_at, bang_at, tilde_at, mark_at, token_at, seen}
 use Rattle.tptp_tokens.specs.declared.token.Token.{Token}
 use Rattle.tptp_tokens.specs.declared.token.Token.TheVariants as t
 use Rattle.tptp_tokens.specs.Skipping.{IsTail}
@@ -408,3 +408,14 @@ pub one_longest : (bytes : List ℕ) (token other : Token) (rest left : List ℕ
 one_longest bytes token other rest left h k =
     let e : (let x : Token × List ℕ = (token, rest) in x) ≡ (other, left) = some_is {A = Token × List ℕ} (token, rest) (other, left) (sym (longest_reads bytes token rest h) ∙ longest_reads bytes other left k) in
     (ap (λ (x : Token × List ℕ). x.0) e, ap (λ (x : Token × List ℕ). x.1) e)
+
+front_told : {Place : Type 0} (behind : Place → List ℕ) (bytes : List ℕ) (o : Option (Token × Place)) → seen (λ x. (x.0, behind x.1)) o ≡ token_at bytes
+    → MatchOption o (IsTokenless bytes) (λ x. Longest bytes x.0 (behind x.1))
+front_told behind bytes None e = λ token rest is. nothing_reads bytes token rest (sym e) is
+front_told behind bytes (Some x) e = reads_longest bytes x.0 (behind x.1) (sym e)
+
+-- what code that hands out places has read
+pub read_told : {Place E : Type 0} (r : Result (Option (Token × Place)) E) (behind : Place → List ℕ) (bytes : List ℕ) → IfOk r (λ o. seen (λ x. (x.0, behind x.1)) o ≡ token_at bytes)
+    → IfOk r (λ o. MatchOption o (IsTokenless bytes) (λ x. Longest bytes x.0 (behind x.1)))
+read_told (Ok o) behind bytes e = front_told behind bytes o e
+read_told (Err e) behind bytes h = tt

@@ -2,6 +2,7 @@ pub mod Brackets
 pub mod Bytes
 pub mod Chunks
 pub mod Matter
+pub mod Nesting
 pub mod Numbers
 pub mod Quotes
 pub mod Scan

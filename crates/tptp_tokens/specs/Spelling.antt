@@ -1,5 +1,5 @@
 -- How each token is spelled, and the longest token in front of bytes.
-use Rattle.std.specs.Prelude.{◌≡◌, ℕ, ◌≤◌, false, List, [], ◌∷◌, ◌++◌, length, IsTrue, Option, Some, None, ◌==◌, if◌then◌else◌}
+use Rattle.std.specs.Prelude.{◌≡◌, ◌≢◌, ℕ, ◌≤◌, false, List, [], ◌∷◌, ◌++◌, length, IsTrue, Option, Some, None, ◌==◌, if◌then◌else◌}
 use Rattle.tptp_tokens.specs.Bytes.{is_lower, is_upper, is_digit, is_printable, is_visible, is_escaped, EachByte, IsWord}
 use Rattle.tptp_tokens.specs.Numbers.{IsNumber}
 use Rattle.tptp_tokens.specs.declared.token.Token.{Token}
@@ -74,3 +74,7 @@ pub record Longest (bytes : List ℕ) (token : Token) (rest : List ℕ) : Type 0
   pub is : IsToken token
   pub front : bytes ≡ spelling token ++ rest
   pub longest : (u : Token) (others : List ℕ) → IsToken u → bytes ≡ spelling u ++ others → length (spelling u) ≤ length (spelling token)
+
+-- no token stands in front of the bytes
+abbrev pub IsTokenless : List ℕ → Type 0
+IsTokenless bytes = (token : Token) (rest : List ℕ) → IsToken token → bytes ≢ spelling token ++ rest

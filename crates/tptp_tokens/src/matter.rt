@@ -46,7 +46,8 @@ fn after_line(bytes: &[u8]) -> &[u8]
 
 /// What stands behind the end of the comment, where it has one.
 fn after_block(bytes: &[u8]) -> Option<&[u8]>
-    ensures rest { MatchOption result (closes bytes.now ≡ false) (λ r. (closes bytes.now ≡ true) × (skip (Between false) r.now ≡ skip InBlock bytes.now)) }
+    ensures rest { MatchOption result (closes bytes.now ≡ false)
+        (λ r. (closes bytes.now ≡ true) × (skip (Between false) r.now ≡ skip InBlock bytes.now)) }
     ensures tail { IfSome result (λ r. IsTail r.now bytes.now) }
 {
     let mut rest = bytes;
@@ -64,7 +65,8 @@ fn after_block(bytes: &[u8]) -> Option<&[u8]>
 /// The same, where the tail that begins at the last `*/` is known, so that none is searched for in vain.
 fn after_comment(closing: usize, bytes: &[u8]) -> Option<&[u8]>
     requires { KnowsClosing closing bytes.now }
-    ensures rest { MatchOption result (closes bytes.now ≡ false) (λ r. (closes bytes.now ≡ true) × (skip (Between false) r.now ≡ skip InBlock bytes.now)) }
+    ensures rest { MatchOption result (closes bytes.now ≡ false)
+        (λ r. (closes bytes.now ≡ true) × (skip (Between false) r.now ≡ skip InBlock bytes.now)) }
     ensures tail { IfSome result (λ r. IsTail r.now bytes.now) }
 {
     if closing == 0 {

@@ -39,7 +39,8 @@ fn between_quotes<'a>(
     bytes: &'a [u8],
 ) -> Result<Option<(Vec<u8>, &'a [u8])>, NoMemory>
     requires { NoneCloses quote left.old (quote ∷ bytes.now) }
-    ensures found { IfOk result (λ o. scan.seen (λ x. (x.0.items, x.1.now)) o ≡ scan.quoted_at quote false bytes.now) }
+    ensures found { IfOk result (λ o. scan.seen
+        (λ x. (x.0.items, x.1.now)) o ≡ scan.quoted_at quote false bytes.now) }
     ensures unclosed { IfOk result (λ o. NoneCloses quote left.new (quote ∷ bytes.now)) }
 {
     if *left <= bytes.len() {
@@ -78,7 +79,8 @@ pub(crate) fn quoted<'a>(
     bytes: &'a [u8],
 ) -> Result<(Token, &'a [u8]), NoMemory>
     requires { NoneCloses 39 left.old (39 ∷ bytes.now) }
-    ensures read { IfOk result (λ x. (x.0, x.1.now) ≡ scan.quoted_or bytes.now (scan.quoted_at 39 false bytes.now)) }
+    ensures read { IfOk result (λ x. (x.0, x.1.now)
+        ≡ scan.quoted_or bytes.now (scan.quoted_at 39 false bytes.now)) }
     ensures unclosed { IfOk result (λ x. NoneCloses 39 left.new (39 ∷ bytes.now)) }
 {
     match between_quotes(alloc, b'\'', left, bytes)? {
@@ -100,7 +102,8 @@ pub(crate) fn distinct<'a>(
     bytes: &'a [u8],
 ) -> Result<(Token, &'a [u8]), NoMemory>
     requires { NoneCloses 34 left.old (34 ∷ bytes.now) }
-    ensures read { IfOk result (λ x. (x.0, x.1.now) ≡ scan.distinct_or bytes.now (scan.quoted_at 34 false bytes.now)) }
+    ensures read { IfOk result (λ x. (x.0, x.1.now)
+        ≡ scan.distinct_or bytes.now (scan.quoted_at 34 false bytes.now)) }
     ensures unclosed { IfOk result (λ x. NoneCloses 34 left.new (34 ∷ bytes.now)) }
 {
     match between_quotes(alloc, b'"', left, bytes)? {

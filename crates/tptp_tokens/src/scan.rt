@@ -1,6 +1,7 @@
 //! The longest token in front of bytes.
-ghost use Rattle.std.specs.Prelude.{◌≡◌, ◌∷◌, IfOk};
+ghost use Rattle.std.specs.Prelude.{◌≡◌, ◌∷◌, IfOk, MatchOption};
 ghost use Rattle.tptp_tokens.specs.Scan as scan;
+ghost use Rattle.tptp_tokens.specs.Spelling.{IsTokenless, Longest};
 ghost use Rattle.tptp_tokens.specs.Quotes.{KnowsUnclosed};
 
 use crate::marks::mark_behind;
@@ -21,7 +22,8 @@ fn number<'a>(
     behind: &'a [u8],
 ) -> Result<(Token, &'a [u8]), NoMemory>
     requires { bytes.now ≡ sign ∷ behind.now }
-    ensures { IfOk result (λ x. (x.0, x.1.now) ≡ scan.number_or sign behind.now (scan.after_number bytes.now)) }
+    ensures { IfOk result (λ x. (x.0, x.1.now)
+        ≡ scan.number_or sign behind.now (scan.after_number bytes.now)) }
 {
     match after_number(bytes) {
         Some(rest) => Ok((Token::Number(before(alloc, bytes, rest)?), rest)),
@@ -36,7 +38,8 @@ fn dollar<'a>(
     behind: &'a [u8],
 ) -> Result<(Token, &'a [u8]), NoMemory>
     requires { bytes.now ≡ 36 ∷ behind.now }
-    ensures { IfOk result (λ x. (x.0, x.1.now) ≡ scan.dollar_or behind.now (scan.after_dollar behind.now)) }
+    ensures { IfOk result (λ x. (x.0, x.1.now)
+        ≡ scan.dollar_or behind.now (scan.after_dollar behind.now)) }
 {
     match after_dollar(behind) {
         Some(rest) => Ok((Token::Dollar(before(alloc, bytes, rest)?), rest)),
@@ -81,10 +84,12 @@ pub(crate) fn next_token<'a>(
     }
 }
 
-/// The longest token that stands in front of the bytes, and the bytes behind it. None begins with white
-/// space, with a control byte or with a byte past ASCII, and one begins with any other byte.
+/// The longest token that stands in front of the bytes, and the bytes behind it, or none where no token
+/// stands there: none begins with white space, with a control byte or with a byte past ASCII, and one begins
+/// with any other byte.
 pub fn token_of(alloc: Global, bytes: &[u8]) -> Result<Option<(Token, &[u8])>, NoMemory>
-    ensures { IfOk result (λ o. scan.seen (λ x. (x.0, x.1.now)) o ≡ scan.token_at bytes.now) }
+    ensures { IfOk result (λ o. MatchOption o (IsTokenless bytes.now)
+        (λ x. Longest bytes.now x.0 x.1.now)) }
 {
     let mut unclosed = Unclosed::new(bytes);
     next_token(alloc, &mut unclosed, bytes)

@@ -1,0 +1,13 @@
+use Rattle.std.proofs.Common.{arith}
+use Rattle.tptp_tokens.specs.Brackets.{too_deep}
+use Rattle.tptp_tokens.proofs.BracketLaws.{deep_counted}
+use Rattle.tptp_tokens.proofs.Places.{places}
+use Rattle.tptp_tokens.proofs.chunks.is_too_deep.Goals as goal
+
+pub returns-then-unclosed-eq1000-clause-deep : goal.returns-then-unclosed-eq1000-clause-deep
+unfolding too_deep
+returns-then-unclosed-eq1000-clause-deep c = deep_counted _ c.args.tokens.now (grind (arith, places))
+
+pub returns-clause-deep : goal.returns-clause-deep
+unfolding too_deep
+returns-clause-deep c = deep_counted _ c.args.tokens.now (grind (arith, places))

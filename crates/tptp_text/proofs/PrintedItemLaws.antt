@@ -8,7 +8,7 @@ use Rattle.dk_syntax.specs.declared.Formula.{Formula}
 use Rattle.tptp_tokens.specs.Bytes.{is_digit}
 use Rattle.tptp_tokens.specs.Spelling.{IsQuoted}
 use Rattle.tptp_tokens.specs.declared.Token.TheVariants as t
-use Rattle.tptp_formulas.specs.Soundness.{IsSound}
+use Rattle.tptp_formulas.specs.Proper.{IsProper}
 use Rattle.tptp_formulas.specs.Written.{Written}
 use Rattle.tptp_formulas.specs.declared.Lang.TheVariants as lang
 use Rattle.tptp_text.specs.Items.{annotated, NoSource, IsItem, Annotated}
@@ -35,9 +35,9 @@ name_kept name = elim (cases_Bool (is_lower_word name)) [
   ]
 ]
 
-module _ (name role : List ℕ) (f : Formula) (role_so : is_lower_word role ≡ true) (small : formula_depth f < 2 ^ 64) (sound : IsSound f) where
+module _ (name role : List ℕ) (f : Formula) (role_so : is_lower_word role ≡ true) (small : formula_depth f < 2 ^ 64) (proper : IsProper f) where
   item_is : annotated lang.Fof name role (whole (parts_of f 0)) source.Missing ≡ printed_as name role f
-  item_is = let h = printed_body f small sound in rw (h.0, h.1) refl
+  item_is = let h = printed_body f small proper in rw (h.0, h.1) refl
 
   written : Written lang.Fof (formula_tokens f 0 (t.CloseRound ∷ [])) (whole (parts_of f 0)) (t.CloseRound ∷ [])
   written = record { formula = formula_written f 0 (t.CloseRound ∷ []); ends = refl; fits = refl }

@@ -173,7 +173,7 @@ module _ (name role : List ℕ) (f : Formula) (h : IsPrintable name role f) wher
 
   are_items : AreItems IsWithin true (printed_item name role f) (printed_as name role f ∷ []) []
   are_items = ItemFirst true (printed_item name role f) (printed_item name role f) (printed_as name role f) (10 ∷ []) [] [] (Nothing true (printed_item name role f) (refl, refl, refl))
-      (begins name role f h.lower small h.sound h.named h.symbols) within (NoItem false (10 ∷ []) [] (White false 10 [] [] refl (Nothing true [] tt)))
+      (begins name role f h.lower small h.proper h.named h.symbols) within (NoItem false (10 ∷ []) [] (White false 10 [] [] refl (Nothing true [] tt)))
 
   -- the printed item is read back
   pub printed_is_read : IsReadAnswer (printed_item name role f) (Ok (printed_as name role f ∷ []))

@@ -22,7 +22,9 @@ use Rattle.tptp_formulas.proofs.RawEquations.{meaning-Variable, meaning-Apply, m
 use Rattle.tptp_formulas.specs.Meaning.{number, number_or, symbol, variable, term_of, linked, connected, wrapped, formula_of, body_of}
 use Rattle.tptp_formulas.specs.Outside.{first_some, outside_term, outside_of}
 use Rattle.tptp_formulas.specs.Scopes.{Names, names_of, has_name, unbound, term_variables, each, free_in, first_free}
-use Rattle.tptp_formulas.specs.Soundness.{all_true, fits_symbol, sound_term, sound_under}
+use Rattle.dk_syntax.specs.WellFormed.{all_true, fits_symbol}
+use Rattle.tptp_formulas.proofs.ProperTrees.{proper_since, proper_term, proper_under}
+use Rattle.tptp_formulas.specs.Proper.{IsProper}
 use Rattle.tptp_formulas.specs.declared.Body.TheVariants.{Plain}
 use Rattle.tptp_formulas.specs.declared.Connective.{Connective}
 use Rattle.tptp_formulas.specs.declared.Connective.TheVariants as connective
@@ -98,14 +100,14 @@ unbound_both bound (name ∷ a) b e f = elim (cases_Bool (has_name bound name)) 
 
 -- ---- terms
 
-sound-Var : (level n : ℕ) → sound_term level (term.Var n) ≡ nat_lt n level
-sound-Var level n = search (rules, of_terms)
+proper-Var : (level n : ℕ) → proper_term level (term.Var n) ≡ nat_lt n level
+proper-Var level n = search (rules, of_terms)
 
-sound-App : (level : ℕ) (s : SymKey) (args : List Term) → sound_term level (term.App s args) ≡ (fits_symbol Function s (length args) && all_true (map (sound_term level) args))
-sound-App level s args = grind (arith, of_terms, length-map)
+proper-App : (level : ℕ) (s : SymKey) (args : List Term) → proper_term level (term.App s args) ≡ (fits_symbol Function s (length args) && all_true (map (proper_term level) args))
+proper-App level s args = grind (arith, of_terms, length-map)
 
-sound-Any : (level : ℕ) → sound_term level term.Any ≡ false
-sound-Any level = search (rules, of_terms)
+proper-Any : (level : ℕ) → proper_term level term.Any ≡ false
+proper-Any level = search (rules, of_terms)
 
 outside-Variable : (name : List ℕ) → outside_term (raw_term.Variable name) ≡ None
 outside-Variable name = search (rules, of_raw_terms)
@@ -118,12 +120,12 @@ abbrev ListFacts : ℕ → List RawTerm → List Term → Type 0
 ListFacts level rs xs = (each (level_names level) (map term_of rs) ≡ xs) × (unbound (level_names level) (joined (map term_variables rs)) ≡ []) × (first_some (map outside_term rs) ≡ None)
 
 abbrev TermMeans : Term → Type 0
-TermMeans x = (level : ℕ) → level < 2 ^ 64 → sound_term level x ≡ true → TermFacts level (term_form x level) x
+TermMeans x = (level : ℕ) → level < 2 ^ 64 → proper_term level x ≡ true → TermFacts level (term_form x level) x
 
-list_means : (xs : List Term) → Each TermMeans xs → (level : ℕ) → level < 2 ^ 64 → all_true (map (sound_term level) xs) ≡ true → ListFacts level (each level (map term_form xs)) xs
-list_means [] known level small sound = (refl, refl, refl)
-list_means (x ∷ xs) known level small sound =
-    let p = and_parts (sound_term level x) (all_true (map (sound_term level) xs)) sound in
+list_means : (xs : List Term) → Each TermMeans xs → (level : ℕ) → level < 2 ^ 64 → all_true (map (proper_term level) xs) ≡ true → ListFacts level (each level (map term_form xs)) xs
+list_means [] known level small proper = (refl, refl, refl)
+list_means (x ∷ xs) known level small proper =
+    let p = and_parts (proper_term level x) (all_true (map (proper_term level) xs)) proper in
     let first = known.0 level small p.0 in
     let others = list_means xs known.1 level small p.1 in (
       ap₂ (λ (y : Term) (ys : List Term). y ∷ ys) first.0 others.0,
@@ -151,8 +153,8 @@ symbol_is s n k e f = ap₂ (λ (m : ℕ) (j : Kind). symbol s.name m j) (sym e)
 
 term_means : (x : Term) → TermMeans x
 term_means = term_induction TermMeans
-    (λ n level small sound.
-    let below : n < level = ltb-true n level (sym (sound-Var level n) ∙ sound) in
+    (λ n level small proper.
+    let below : n < level = ltb-true n level (sym (proper-Var level n) ∙ proper) in
     let number_is : number (variable_text (level - 1 - n)) (level_names level) ≡ Some (level - 1 - (level - 1 - n)) = number_of_level level (level - 1 - n) (omega arith) small in
     let back : level - 1 - (level - 1 - n) ≡ n = omega arith in
     rw (form-Var n level) (
@@ -160,8 +162,8 @@ term_means = term_induction TermMeans
       ap (unbound (level_names level)) (variables-Variable (variable_text (level - 1 - n))) ∙ rw (has_level level (level - 1 - n) (omega arith)) refl,
       outside-Variable (variable_text (level - 1 - n)),
     ))
-    (λ s args known level small sound.
-    let p = and_parts (fits_symbol Function s (length args)) (all_true (map (sound_term level) args)) (sym (sound-App level s args) ∙ sound) in
+    (λ s args known level small proper.
+    let p = and_parts (fits_symbol Function s (length args)) (all_true (map (proper_term level) args)) (sym (proper-App level s args) ∙ proper) in
     let q = and_parts (same_kind s.kind Function) (nat_eq s.arity (length args)) p.0 in
     let facts = list_means args known level small p.1 in
     let forms = each level (map term_form args) in
@@ -171,33 +173,33 @@ term_means = term_induction TermMeans
       ap (unbound (level_names level)) (variables-Apply s.name forms) ∙ facts.1,
       outside-Apply s.name forms ∙ facts.2,
     ))
-    (λ level small sound. absurd (let wrong = sym (sound-Any level) ∙ sound in cc))
+    (λ level small proper. absurd (let wrong = sym (proper-Any level) ∙ proper in cc))
 
 -- ---- formulas
 
-sound-Atom : (s : SymKey) (args : List Term) (level : ℕ) → sound_under (formula.Atom s args) level ≡ (fits_symbol Predicate s (length args) && all_true (map (sound_term level) args))
-sound-Atom s args level = search (rules, of_formulas)
+proper-Atom : (s : SymKey) (args : List Term) (level : ℕ) → proper_under (formula.Atom s args) level ≡ (fits_symbol Predicate s (length args) && all_true (map (proper_term level) args))
+proper-Atom s args level = search (rules, of_formulas)
 
-sound-Not : (a : Formula) (level : ℕ) → sound_under (formula.Not a) level ≡ sound_under a level
-sound-Not a level = search (rules, of_formulas)
+proper-Not : (a : Formula) (level : ℕ) → proper_under (formula.Not a) level ≡ proper_under a level
+proper-Not a level = search (rules, of_formulas)
 
-sound-And : (a b : Formula) (level : ℕ) → sound_under (formula.And a b) level ≡ (sound_under a level && sound_under b level)
-sound-And a b level = search (rules, of_formulas)
+proper-And : (a b : Formula) (level : ℕ) → proper_under (formula.And a b) level ≡ (proper_under a level && proper_under b level)
+proper-And a b level = search (rules, of_formulas)
 
-sound-Or : (a b : Formula) (level : ℕ) → sound_under (formula.Or a b) level ≡ (sound_under a level && sound_under b level)
-sound-Or a b level = search (rules, of_formulas)
+proper-Or : (a b : Formula) (level : ℕ) → proper_under (formula.Or a b) level ≡ (proper_under a level && proper_under b level)
+proper-Or a b level = search (rules, of_formulas)
 
-sound-Imp : (a b : Formula) (level : ℕ) → sound_under (formula.Imp a b) level ≡ (sound_under a level && sound_under b level)
-sound-Imp a b level = search (rules, of_formulas)
+proper-Imp : (a b : Formula) (level : ℕ) → proper_under (formula.Imp a b) level ≡ (proper_under a level && proper_under b level)
+proper-Imp a b level = search (rules, of_formulas)
 
-sound-Iff : (a b : Formula) (level : ℕ) → sound_under (formula.Iff a b) level ≡ (sound_under a level && sound_under b level)
-sound-Iff a b level = search (rules, of_formulas)
+proper-Iff : (a b : Formula) (level : ℕ) → proper_under (formula.Iff a b) level ≡ (proper_under a level && proper_under b level)
+proper-Iff a b level = search (rules, of_formulas)
 
-sound-All : (a : Formula) (level : ℕ) → sound_under (formula.All a) level ≡ sound_under a (level + 1)
-sound-All a level = search (rules, of_formulas)
+proper-All : (a : Formula) (level : ℕ) → proper_under (formula.All a) level ≡ proper_under a (level + 1)
+proper-All a level = search (rules, of_formulas)
 
-sound-Ex : (a : Formula) (level : ℕ) → sound_under (formula.Ex a) level ≡ sound_under a (level + 1)
-sound-Ex a level = search (rules, of_formulas)
+proper-Ex : (a : Formula) (level : ℕ) → proper_under (formula.Ex a) level ≡ proper_under a (level + 1)
+proper-Ex a level = search (rules, of_formulas)
 
 free-Dollar : (name : List ℕ) (bound : Names) → free_in (raw.Dollar name []) bound ≡ []
 free-Dollar name bound = search (rules, of_raw)
@@ -251,11 +253,11 @@ binary_facts bound c p q f g h k =
     (meaning-Binary c p q bound ∙ ap₂ (λ (a b : Formula). connected c a b) h.0 k.0, free-Binary c p q bound ∙ rw (h.1, k.1) refl, outside-Binary c p q ∙ rw (h.2, k.2) refl)
 
 abbrev FormulaMeans : Formula → Type 0
-FormulaMeans f = (level : ℕ) → level + formula_depth f < 2 ^ 64 → sound_under f level ≡ true → Facts (level_names level) (whole (parts_of f level)) f
+FormulaMeans f = (level : ℕ) → level + formula_depth f < 2 ^ 64 → proper_under f level ≡ true → Facts (level_names level) (whole (parts_of f level)) f
 
-atom_facts : (s : SymKey) (args : List Term) (level : ℕ) → level < 2 ^ 64 → sound_under (formula.Atom s args) level ≡ true → Facts (level_names level) (raw.Atom s.name (each level (map term_form args))) (formula.Atom s args)
-atom_facts s args level small sound =
-    let p = and_parts (fits_symbol Predicate s (length args)) (all_true (map (sound_term level) args)) (sym (sound-Atom s args level) ∙ sound) in
+atom_facts : (s : SymKey) (args : List Term) (level : ℕ) → level < 2 ^ 64 → proper_under (formula.Atom s args) level ≡ true → Facts (level_names level) (raw.Atom s.name (each level (map term_form args))) (formula.Atom s args)
+atom_facts s args level small proper =
+    let p = and_parts (fits_symbol Predicate s (length args)) (all_true (map (proper_term level) args)) (sym (proper-Atom s args level) ∙ proper) in
     let q = and_parts (same_kind s.kind Predicate) (nat_eq s.arity (length args)) p.0 in
     let facts = list_means args (each_of TermMeans term_means args) level small p.1 in
     let forms = each level (map term_form args) in
@@ -270,27 +272,27 @@ next_names level = rw add-one refl
 
 formula_means : (f : Formula) → FormulaMeans f
 formula_means = formula_induction FormulaMeans
-    (λ level small sound. rw (parts-True level) (bare_facts (level_names level) _ _ (meaning-Dollar (codes "$true") [] (level_names level), free-Dollar (codes "$true") (level_names level), outside-true)))
-    (λ level small sound. rw (parts-False level) (bare_facts (level_names level) _ _ (meaning-Dollar (codes "$false") [] (level_names level), free-Dollar (codes "$false") (level_names level), outside-false)))
-    (λ s args level small sound. rw (parts-Atom s args level) (bare_facts (level_names level) _ _ (atom_facts s args level (omega arith) sound)))
-    (λ a known level small sound. let fits = rw (depth-Not a) at small in rw (parts-Not a level) (not_facts (level_names level) (parts_of a level) a (known level (omega arith) (sym (sound-Not a level) ∙ sound))))
-    (λ a b left right level small sound. let fits = rw (depth-And a b) at small in let p = and_parts (sound_under a level) (sound_under b level) (sym (sound-And a b level) ∙ sound) in
+    (λ level small proper. rw (parts-True level) (bare_facts (level_names level) _ _ (meaning-Dollar (codes "$true") [] (level_names level), free-Dollar (codes "$true") (level_names level), outside-true)))
+    (λ level small proper. rw (parts-False level) (bare_facts (level_names level) _ _ (meaning-Dollar (codes "$false") [] (level_names level), free-Dollar (codes "$false") (level_names level), outside-false)))
+    (λ s args level small proper. rw (parts-Atom s args level) (bare_facts (level_names level) _ _ (atom_facts s args level (omega arith) proper)))
+    (λ a known level small proper. let fits = rw (depth-Not a) at small in rw (parts-Not a level) (not_facts (level_names level) (parts_of a level) a (known level (omega arith) (sym (proper-Not a level) ∙ proper))))
+    (λ a b left right level small proper. let fits = rw (depth-And a b) at small in let p = and_parts (proper_under a level) (proper_under b level) (sym (proper-And a b level) ∙ proper) in
     rw (parts-And a b level) (bare_facts (level_names level) _ _ (chain_facts (level_names level) link.And _ _ a b (left level (omega arith) p.0) (right level (omega arith) p.1))))
-    (λ a b left right level small sound. let fits = rw (depth-Or a b) at small in let p = and_parts (sound_under a level) (sound_under b level) (sym (sound-Or a b level) ∙ sound) in
+    (λ a b left right level small proper. let fits = rw (depth-Or a b) at small in let p = and_parts (proper_under a level) (proper_under b level) (sym (proper-Or a b level) ∙ proper) in
     rw (parts-Or a b level) (bare_facts (level_names level) _ _ (chain_facts (level_names level) link.Or _ _ a b (left level (omega arith) p.0) (right level (omega arith) p.1))))
-    (λ a b left right level small sound. let fits = rw (depth-Imp a b) at small in let p = and_parts (sound_under a level) (sound_under b level) (sym (sound-Imp a b level) ∙ sound) in
+    (λ a b left right level small proper. let fits = rw (depth-Imp a b) at small in let p = and_parts (proper_under a level) (proper_under b level) (sym (proper-Imp a b level) ∙ proper) in
     rw (parts-Imp a b level) (bare_facts (level_names level) _ _ (binary_facts (level_names level) connective.Implies _ _ a b (left level (omega arith) p.0) (right level (omega arith) p.1))))
-    (λ a b left right level small sound. let fits = rw (depth-Iff a b) at small in let p = and_parts (sound_under a level) (sound_under b level) (sym (sound-Iff a b level) ∙ sound) in
+    (λ a b left right level small proper. let fits = rw (depth-Iff a b) at small in let p = and_parts (proper_under a level) (proper_under b level) (sym (proper-Iff a b level) ∙ proper) in
     rw (parts-Iff a b level) (bare_facts (level_names level) _ _ (binary_facts (level_names level) connective.Iff _ _ a b (left level (omega arith) p.0) (right level (omega arith) p.1))))
-    (λ a known level small sound. let fits = rw (depth-All a) at small in
-    rw (parts-All a level) (all_facts (level_names level) (variable_text level) (parts_of a (level + 1)) a (subst (λ (b : Names). Facts b (whole (parts_of a (level + 1))) a) (next_names level) (known (level + 1) (omega arith) (sym (sound-All a level) ∙ sound)))))
-    (λ a known level small sound. let fits = rw (depth-Ex a) at small in
-    rw (parts-Ex a level) (ex_facts (level_names level) (variable_text level) (parts_of a (level + 1)) a (subst (λ (b : Names). Facts b (whole (parts_of a (level + 1))) a) (next_names level) (known (level + 1) (omega arith) (sym (sound-Ex a level) ∙ sound)))))
+    (λ a known level small proper. let fits = rw (depth-All a) at small in
+    rw (parts-All a level) (all_facts (level_names level) (variable_text level) (parts_of a (level + 1)) a (subst (λ (b : Names). Facts b (whole (parts_of a (level + 1))) a) (next_names level) (known (level + 1) (omega arith) (sym (proper-All a level) ∙ proper)))))
+    (λ a known level small proper. let fits = rw (depth-Ex a) at small in
+    rw (parts-Ex a level) (ex_facts (level_names level) (variable_text level) (parts_of a (level + 1)) a (subst (λ (b : Names). Facts b (whole (parts_of a (level + 1))) a) (next_names level) (known (level + 1) (omega arith) (sym (proper-Ex a level) ∙ proper)))))
 
 -- ---- the whole formula
 
 -- what a printed formula means is the formula, and nothing in it is free
-pub printed_body : (f : Formula) → formula_depth f < 2 ^ 64 → sound_under f 0 ≡ true → (body_of (whole (parts_of f 0)) ≡ Plain f) × (first_free (whole (parts_of f 0)) ≡ None)
-printed_body f small sound =
-    let facts = formula_means f 0 (omega arith) sound in
+pub printed_body : (f : Formula) → formula_depth f < 2 ^ 64 → IsProper f → (body_of (whole (parts_of f 0)) ≡ Plain f) × (first_free (whole (parts_of f 0)) ≡ None)
+printed_body f small proper =
+    let facts = formula_means f 0 (omega arith) (proper_since f proper) in
     (rw (facts.2, facts.1, facts.0) refl, rw (facts.1) refl)

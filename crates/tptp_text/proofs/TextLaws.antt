@@ -14,8 +14,9 @@ use Rattle.tptp_text.specs.declared.fault.TptpFault.{TptpFault}
 use Rattle.tptp_text.specs.declared.fault.TptpFault.TheVariants.{NotTptp, TooDeep, TooMany, Memory}
 use Rattle.tptp_text.specs.declared.item.Item.{Item}
 use Rattle.std.specs.Prelude.{All}
-use Rattle.tptp_formulas.specs.Soundness.{HasSoundFormula}
-use Rattle.tptp_formulas.proofs.SoundFormulas.{sound_body}
+use Rattle.tptp_formulas.specs.Proper.{IfPlain, IsProper}
+use Rattle.tptp_formulas.proofs.ProperFormulas.{proper_body}
+use Rattle.tptp_text.specs.ProperItems.{HaveProperFormulas}
 use Rattle.tptp_text.specs.Items.{IsItem, Annotated, Inclusion, OtherLanguage}
 use Rattle.tptp_text.specs.ReadingItems.{◌then◌, Answers, item_at, weighed, weighed_item, dotted_at, one_at, items_from, items_at}
 use Rattle.tptp_text.specs.Text.{BeginsItem, IsFlat, IsWithin, IsAny, AreItems, NoItem, ItemFirst, Spells, FaultAt, IsFull, HasDeepBrackets, HasNoItem, HasDeepFormula, IsReadAnswer}
@@ -326,19 +327,19 @@ only_answer bytes r answer a h told = subst (λ (x : Result (List Item) TptpFaul
 
 -- ---- what the crates above need of each item
 
-sound_item : {tokens : List Token} {item : Item} → IsItem tokens item → HasSoundFormula item.body
-sound_item (Annotated word language token name role ts f after from l n w p) = sound_body f
-sound_item (Inclusion ts h) = tt
-sound_item (OtherLanguage word ts e h) = tt
+proper_item : {tokens : List Token} {item : Item} → IsItem tokens item → IfPlain item.body IsProper
+proper_item (Annotated word language token name role ts f after from l n w p) = proper_body f
+proper_item (Inclusion ts h) = tt
+proper_item (OtherLanguage word ts e h) = tt
 
 all_first : (P : Item → Type 0) (first : Item) (items : List Item) → P first → All P items → All P (first ∷ items)
 all_first P first items p h zero d lt = p
 all_first P first items p h (suc k) d lt = h k d (omega arith)
 
-all_sound : {Allowed : List ℕ → Item → Type 0} {start : Bool} {bytes : List ℕ} {items : List Item} {there : List ℕ} → AreItems Allowed start bytes items there → All (λ item. HasSoundFormula item.body) items
-all_sound (NoItem start bytes there s) = λ k d lt. absurd (omega arith)
-all_sound (ItemFirst start bytes here item after items there s b w f) = all_first (λ x. HasSoundFormula x.body) item items (sound_item b.reads) (all_sound f)
+all_proper : {Allowed : List ℕ → Item → Type 0} {start : Bool} {bytes : List ℕ} {items : List Item} {there : List ℕ} → AreItems Allowed start bytes items there → HaveProperFormulas items
+all_proper (NoItem start bytes there s) = λ k d lt. absurd (omega arith)
+all_proper (ItemFirst start bytes here item after items there s b w f) = all_first (λ x. IfPlain x.body IsProper) item items (proper_item b.reads) (all_proper f)
 
-pub sound_items : (bytes : List ℕ) (r : Result (List Item) TptpFault) → IsReadAnswer bytes r → IfOk r (All (λ item. HasSoundFormula item.body))
-sound_items bytes (Ok items) h = all_sound h.0
-sound_items bytes (Err fault) h = tt
+pub proper_items : (bytes : List ℕ) (r : Result (List Item) TptpFault) → IsReadAnswer bytes r → IfOk r HaveProperFormulas
+proper_items bytes (Ok items) h = all_proper h.0
+proper_items bytes (Err fault) h = tt

@@ -7,3 +7,4 @@ pub mod Items
 pub mod Text
 pub mod Reading
 pub mod ReadingItems
+pub mod ProperItems

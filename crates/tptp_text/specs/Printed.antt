@@ -3,6 +3,7 @@ use Rattle.std.specs.Prelude.{◌≡◌, ◌≤◌, true, ℕ, ◌+◌, ◌-◌,
 use Rattle.std.specs.List.{list_all}
 use Rattle.dk_syntax.specs.Depth.{formula_depth}
 use Rattle.dk_syntax.specs.Symbols.{formula_occurrences}
+use Rattle.dk_syntax.specs.declared.Literal.{Literal}
 use Rattle.dk_syntax.specs.declared.Formula.{Formula, Formula-F, fold-Formula}
 use Rattle.dk_syntax.specs.declared.Formula.TheOpen as formula
 use Rattle.dk_syntax.specs.declared.Term.{Term, Term-F, fold-Term}
@@ -10,7 +11,7 @@ use Rattle.dk_syntax.specs.declared.Term.TheOpen as term
 use Rattle.tptp_tokens.specs.Bytes.{is_lower, is_digit, is_word}
 use Rattle.dk_syntax.specs.declared.SymKey.{SymKey}
 use Rattle.tptp_tokens.specs.Spelling.{quoted_text, IsQuoted}
-use Rattle.tptp_formulas.specs.Soundness.{IsSound}
+use Rattle.tptp_formulas.specs.Proper.{IsProper}
 use Rattle.tptp_formulas.specs.declared.Body.TheVariants.{Plain}
 use Rattle.tptp_formulas.specs.declared.Lang.TheVariants.{Fof}
 use Rattle.tptp_text.specs.declared.item.Item.{Item}
@@ -61,6 +62,16 @@ printed_term_at term.Any level = codes "$any"
 abbrev pub printed_term : Term → ℕ → List ℕ
 printed_term = fold-Term (ℕ → List ℕ) printed_term_at
 
+-- `~` where the sign is negative
+abbrev pub sign_text : Bool → List ℕ
+sign_text true = []
+sign_text false = codes "~"
+
+-- a literal in a place with so many quantifiers around
+abbrev pub printed_literal : Literal → ℕ → List ℕ
+printed_literal literal level =
+    sign_text literal.positive ++ (printed_name literal.pred.name ++ arguments_text (map printed_term literal.args) level)
+
 -- `(A MARK B)`
 abbrev pub binary_text : List ℕ → (ℕ → List ℕ) → (ℕ → List ℕ) → ℕ → List ℕ
 binary_text mark a b level = codes "(" ++ (a level ++ (mark ++ (b level ++ codes ")")))
@@ -98,12 +109,11 @@ AreNamed (symbol ∷ symbols) = IsQuoted symbol.name × AreNamed symbols
 abbrev pub printed_as : List ℕ → List ℕ → Formula → Item
 printed_as name role body = record { lang = Fof; name = name; role = role; body = Plain body; free = None; source = Missing }
 
--- What is printed so that it is read back: a name of printable bytes, a role that is a lower word, and a formula without Any in which
--- no variable is free, each symbol has a name of printable bytes and as many arguments as its arity, and functions stand in terms
--- and predicates in atoms, of a depth within the reader's limit.
+-- What is printed so that it is read back: a name of printable bytes, a role that is a lower word, and a closed and well-formed
+-- formula without Any, whose symbols have names of printable bytes, of a depth within the reader's limit.
 pub record IsPrintable (name role : List ℕ) (body : Formula) : Type 0 where
   pub named : IsQuoted name
   pub lower : is_lower_word role ≡ true
   pub symbols : AreNamed (formula_occurrences body)
-  pub sound : IsSound body
+  pub proper : IsProper body
   pub depth : formula_depth body ≤ 1000

@@ -174,7 +174,8 @@ fn build_item(
     raw: &Raw,
     source: Source,
 ) -> Result<Item, TptpFault>
-    ensures { Answers (λ x. x) result (weighed_item at (annotated lang name.now role.now raw.now source)) }
+    ensures { Answers (λ x. x) result (weighed_item at
+        (annotated lang name.now role.now raw.now source)) }
 {
     let body = weighed_body(alloc, at, raw)?;
     let free = kept_free(alloc, lang, &body, raw)?;
@@ -199,7 +200,8 @@ fn named(
     role: &Name,
     tokens: &[Token],
 ) -> Result<Item, TptpFault>
-    ensures { Answers (λ x. x) result (weighed at (named_at lang (Some name.now) role.now tokens.now)) }
+    ensures { Answers (λ x. x) result (weighed at
+        (named_at lang (Some name.now) role.now tokens.now)) }
 {
     match written(alloc, lang, tokens) {
         Ok((raw, source)) => build_item(alloc, at, lang, name, role, &raw, source),

@@ -1,4 +1,4 @@
-//! Names, formulas and items, printed.
+//! Names, terms, literals, formulas and items, printed.
 #![tactic(auto, using(crate::proofs::Printing::text_steps))]
 
 ghost use Rattle.std.specs.Prelude.{◌≡◌, ◌⊎◌, ◌++◌, ◌∷◌, [], codes, map, IfOk, List, OnOk, Result, Ok, Err};
@@ -10,7 +10,7 @@ ghost use Rattle.tptp_text.specs.declared.fault.TptpFault.{TptpFault as Fault};
 ghost use Rattle.tptp_text.specs.declared.fault.TptpFault.TheVariants.{Memory};
 ghost use Rattle.tptp_text.specs.declared.item.Item.{Item as Written};
 
-use dk_syntax::{Formula, Name, NoMemory, Term};
+use dk_syntax::{Formula, Literal, Name, NoMemory, Term};
 use itoa::Buffer;
 use std::alloc::Global;
 
@@ -145,7 +145,8 @@ fn put_term(out: &mut Vec<u8>, term: &Term, level: u32) -> Result<(), NoMemory>
 /// No arguments, or a list of them in brackets.
 #[cycle(put_term)]
 fn put_arguments(out: &mut Vec<u8>, terms: &[Term], level: u32) -> Result<(), NoMemory>
-    ensures { OnOk result (out.new.items ≡ out.old.items ++ printed.arguments_text (map printed.printed_term terms.now) level) }
+    ensures { OnOk result (out.new.items ≡ out.old.items
+        ++ printed.arguments_text (map printed.printed_term terms.now) level) }
 {
     if terms.is_empty() {
         return Ok(());
@@ -159,6 +160,40 @@ fn put_arguments(out: &mut Vec<u8>, terms: &[Term], level: u32) -> Result<(), No
     put(out, b")")
 }
 
+fn put_sign(out: &mut Vec<u8>, positive: bool) -> Result<(), NoMemory>
+    ensures { OnOk result (out.new.items ≡ out.old.items ++ printed.sign_text positive) }
+{
+    if positive { Ok(()) } else { put(out, b"~") }
+}
+
+fn put_literal(out: &mut Vec<u8>, literal: &Literal, level: u32) -> Result<(), NoMemory>
+    ensures { OnOk result (out.new.items ≡ out.old.items
+        ++ printed.printed_literal literal.now level) }
+{
+    put_sign(out, literal.positive)?;
+    put_name(out, &literal.pred.name)?;
+    put_arguments(out, literal.args.as_slice(), level)
+}
+
+/// The text of a term in a place with so many quantifiers around: 0 where no variable stands in it, and for a
+/// term of a clause the number of its variables. `Any` is `$any`.
+pub fn term_text(alloc: Global, term: &Term, level: u32) -> Result<Vec<u8>, NoMemory>
+    ensures { IfOk result (λ text. text.items ≡ printed.printed_term term.now level) }
+{
+    let mut out = Vec::new(alloc);
+    put_term(&mut out, term, level)?;
+    Ok(out)
+}
+
+/// The text of a literal in such a place, with `~` before it where its sign is negative.
+pub fn literal_text(alloc: Global, literal: &Literal, level: u32) -> Result<Vec<u8>, NoMemory>
+    ensures { IfOk result (λ text. text.items ≡ printed.printed_literal literal.now level) }
+{
+    let mut out = Vec::new(alloc);
+    put_literal(&mut out, literal, level)?;
+    Ok(out)
+}
+
 /// `(A MARK B)`.
 #[cycle(put_formula)]
 fn put_binary(
@@ -168,7 +203,9 @@ fn put_binary(
     b: &Formula,
     level: u32,
 ) -> Result<(), NoMemory>
-    ensures { OnOk result (out.new.items ≡ out.old.items ++ printed.binary_text mark.now (printed.printed_formula a.now) (printed.printed_formula b.now) level) }
+    ensures { OnOk result (out.new.items ≡ out.old.items
+        ++ printed.binary_text mark.now (printed.printed_formula a.now)
+        (printed.printed_formula b.now) level) }
 {
     put(out, b"(")?;
     put_formula(out, a, level)?;
@@ -180,7 +217,8 @@ fn put_binary(
 /// `MARK[X]:A`.
 #[cycle(put_formula)]
 fn put_quantified(out: &mut Vec<u8>, mark: &[u8], a: &Formula, level: u32) -> Result<(), NoMemory>
-    ensures { OnOk result (out.new.items ≡ out.old.items ++ printed.quantified_text mark.now (printed.printed_formula a.now) level) }
+    ensures { OnOk result (out.new.items ≡ out.old.items
+        ++ printed.quantified_text mark.now (printed.printed_formula a.now) level) }
 {
     let inner = level.checked_add(1).ok_or(NoMemory)?;
     put(out, mark)?;
@@ -215,6 +253,15 @@ fn put_formula(out: &mut Vec<u8>, f: &Formula, level: u32) -> Result<(), NoMemor
     }
 }
 
+/// The text of a formula in a place with so many quantifiers around: 0 for a formula by itself.
+pub fn formula_text(alloc: Global, formula: &Formula, level: u32) -> Result<Vec<u8>, NoMemory>
+    ensures { IfOk result (λ text. text.items ≡ printed.printed_formula formula.now level) }
+{
+    let mut out = Vec::new(alloc);
+    put_formula(&mut out, formula, level)?;
+    Ok(out)
+}
+
 fn item_text(
     alloc: Global,
     name: &Name,
@@ -242,10 +289,15 @@ pub fn print_item(
     role: &Name,
     formula: &Formula,
 ) -> Result<Vec<u8>, NoMemory>
-    ensures text { IfOk result (λ text. text.items ≡ printed.printed_item name.now role.now formula.now) }
+    ensures text { IfOk result (λ text. text.items
+        ≡ printed.printed_item name.now role.now formula.now) }
     // A printed item is read back, and on its text nothing else is answered but want of memory.
-    ensures reads { IfOk result (λ text. printed.IsPrintable name.now role.now formula.now → IsReadAnswer text.items (Ok (printed.printed_as name.now role.now formula.now ∷ []))) }
-    ensures only { IfOk result (λ text. printed.IsPrintable name.now role.now formula.now → (answer : Result (List Written) Fault) → IsReadAnswer text.items answer → (answer ≡ Ok (printed.printed_as name.now role.now formula.now ∷ [])) ⊎ (answer ≡ Err Memory)) }
+    ensures reads { IfOk result (λ text. printed.IsPrintable name.now role.now formula.now
+        → IsReadAnswer text.items (Ok (printed.printed_as name.now role.now formula.now ∷ []))) }
+    ensures only { IfOk result (λ text. printed.IsPrintable name.now role.now formula.now
+        → (answer : Result (List Written) Fault) → IsReadAnswer text.items answer
+        → (answer ≡ Ok (printed.printed_as name.now role.now formula.now ∷ []))
+        ⊎ (answer ≡ Err Memory)) }
 {
     let text = item_text(alloc, name, role, formula)?;
     Ok(text)

@@ -110,7 +110,8 @@ fn parents_of(
     room: usize,
     tokens: &[Token],
 ) -> Result<(Seq<Source>, &[Token]), ReadError>
-    ensures { Gives (λ x. (x.0, x.1.now)) result (parents_at (length tokens.now) (source_at room true) tokens.now) }
+    ensures { Gives (λ x. (x.0, x.1.now)) result
+        (parents_at (length tokens.now) (source_at room true) tokens.now) }
 {
     let mut parents = Seq::from_vec(Vec::new(alloc));
     let mut rest = tokens;
@@ -148,7 +149,8 @@ fn derived_of(
     status: Option<Name>,
     tokens: &[Token],
 ) -> Result<(Source, &[Token]), ReadError>
-    ensures { Gives (λ x. (x.0, x.1.now)) result (derived_at (source_at room true) status tokens.now) }
+    ensures { Gives (λ x. (x.0, x.1.now)) result
+        (derived_at (source_at room true) status tokens.now) }
 {
     match tokens {
         [Token::OpenSquare, rest @ ..] => {

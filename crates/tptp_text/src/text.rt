@@ -1,13 +1,13 @@
 //! Reading a whole text.
 #![tactic(auto, using(crate::proofs::TextSteps::text_steps), unfolding(crate::specs::ReadingItems::dotted_at, crate::specs::ReadingItems::one_at, crate::specs::ReadingItems::items_from))]
 
-ghost use Rattle.std.specs.Prelude.{◌≡◌, ◌≢◌, ◌+◌, ◌≤◌, length, true, IfOk, List, Result, Err, All};
+ghost use Rattle.std.specs.Prelude.{◌≡◌, ◌≢◌, ◌+◌, ◌≤◌, length, true, IfOk, List, Result, Err};
 ghost use Rattle.std.specs.Option.{option_copied};
-ghost use Rattle.tptp_formulas.specs.Soundness.{HasSoundFormula};
 ghost use Rattle.tptp_text.specs.declared.fault.TptpFault.{TptpFault as Fault};
 ghost use Rattle.tptp_text.specs.declared.fault.TptpFault.TheVariants.{Memory};
 ghost use Rattle.tptp_text.specs.declared.item.Item.{Item as Written};
 ghost use Rattle.tptp_text.specs.Items.{kind_of};
+ghost use Rattle.tptp_text.specs.ProperItems.{HaveProperFormulas};
 ghost use Rattle.tptp_text.specs.ReadingItems.{Answers, one_at, items_at};
 ghost use Rattle.tptp_text.specs.Text.{IsReadAnswer};
 
@@ -37,7 +37,8 @@ fn one_item<'a>(alloc: Global, at: u64, here: &Unread<'a>) -> Result<(Item, Unre
 }
 
 fn all_items(alloc: Global, bytes: &[u8]) -> Result<Seq<Item>, TptpFault>
-    ensures { Answers (λ x. x) result (items_at (length bytes.now) (length bytes.now + 1) 0 true bytes.now) }
+    ensures { Answers (λ x. x) result (items_at (length bytes.now) (length bytes.now + 1) 0 true
+        bytes.now) }
 {
     let mut items = Seq::from_vec(Vec::new(alloc));
     let mut rest = Unread::new(bytes);
@@ -64,10 +65,11 @@ fn all_items(alloc: Global, bytes: &[u8]) -> Result<Seq<Item>, TptpFault>
 pub fn read_items(alloc: Global, bytes: &[u8]) -> Result<Seq<Item>, TptpFault>
     ensures answer { IsReadAnswer bytes.now result }
     ensures few { IfOk result (λ items. length items ≤ 65536) }
-    // No variable is free in a formula, and each symbol has as many arguments as its arity.
-    ensures sound { IfOk result (All (λ item. HasSoundFormula item.body)) }
+    // Each formula is closed and well-formed, and has no Any.
+    ensures proper { IfOk result HaveProperFormulas }
     // Whatever the answer of the text is, it is given, unless memory ran out.
-    ensures only { (answer : Result (List Written) Fault) → IsReadAnswer bytes.now answer → answer ≢ Err Memory → Answers (λ x. x) result answer }
+    ensures only { (answer : Result (List Written) Fault) → IsReadAnswer bytes.now answer
+        → answer ≢ Err Memory → Answers (λ x. x) result answer }
 {
     all_items(alloc, bytes)
 }

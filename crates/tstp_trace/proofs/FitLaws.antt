@@ -1,4 +1,4 @@
--- A step without a fault has one parent, or two that differ where it is neither a negation nor a Skolem step.
+-- A step without a fault has from one to eight parents, and only one where it is a negation or a Skolem step.
 use Rattle.std.proofs.Common.{◌≡◌, ℕ, ◌<◌, ◌≤◌, Bool, true, false, not, nat_eq, nat_lt, if◌then◌else◌, ◌||◌, ◌&&◌, List, Option, Some, None, length, codes, count_by, refl, sym, arith}
 use Rattle.std.proofs.lemmas.Bool.{eqb-false, ltb-false}
 use Rattle.std.proofs.lemmas.Option.{none-some}
@@ -8,7 +8,7 @@ use Rattle.std.specs.Cmp.Lexicographic.{pointwise}
 use Rattle.tptp_text.specs.declared.Source.{Source, Source-F, out-Source}
 use Rattle.tptp_text.specs.declared.Source.TheOpen as source
 use Rattle.tstp_trace.specs.Names.{is_among}
-use Rattle.tstp_trace.specs.Sources.{derivation_fault, derived_by, is_derived, is_known_status, is_mixed, names_in, parents_of, parts_fault, source_by, source_fault, source_fault_by, source_of, statuses_in}
+use Rattle.tstp_trace.specs.Sources.{derivation_fault, derived_by, is_derived, is_known_status, is_mixed, most_parents, names_in, parents_of, parts_fault, source_by, source_fault, source_fault_by, source_of, statuses_in}
 use Rattle.tstp_trace.specs.Traces.{HasFitParents}
 use Rattle.tstp_trace.specs.declared.fault.Unsupported.TheVariants.{Word, Status, NoParent, ManyParents, Mixed}
 use Rattle.tstp_trace.proofs.DistinctLaws.{distinct_once}
@@ -21,7 +21,7 @@ passed false fault rest e = (refl, e)
 -- the counts of a step without a fault
 record Counts (flagged : Bool) (parents : ℕ) : Type 0 where
   some : 0 < parents
-  few : parents ≤ 2
+  few : parents ≤ most_parents
   one : IsTrue flagged → parents ≡ 1
 
 flag_alone : (twice flagged : Bool) (parents : ℕ) → (twice || (flagged && nat_lt 1 parents)) ≡ false → IsTrue flagged → parents ≤ 1
@@ -34,10 +34,10 @@ counts derived statuses parents e =
     let a = passed (not derived) Word _ e in
     let b = passed (not (list_all is_known_status statuses)) Status _ a.1 in
     let c = passed (nat_eq parents 0) NoParent _ b.1 in
-    let d = passed (nat_lt 2 parents) ManyParents _ c.1 in
+    let d = passed (nat_lt most_parents parents) ManyParents _ c.1 in
     let f = passed (is_mixed statuses parents) Mixed _ d.1 in
     let positive = eqb-false parents 0 c.0 in
-    let low = ltb-false 2 parents d.0 in
+    let low = ltb-false most_parents parents d.0 in
     record {
       some = omega arith;
       few = omega arith;

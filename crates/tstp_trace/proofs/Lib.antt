@@ -6,3 +6,5 @@ pub mod FitLaws
 pub mod TraceLaws
 pub mod ProblemLaws
 pub mod KeptLaws
+pub mod AnswerLaws
+pub mod ProperLaws

@@ -47,10 +47,10 @@ pub with_names_longer : (seen rest : List (List ℕ)) → length seen ≤ length
 with_names_longer seen [] = omega arith
 with_names_longer seen (name ∷ rest) = let a = with_name_longer seen name in let b = with_names_longer (with_name seen name) rest in omega arith
 
--- more than two names were seen, so there are more than two
-pub once_enough : (names : List (List ℕ)) (i : ℕ) (seen after : List (List ℕ)) (name : List ℕ) → i < length names → name ≡ get_or names i name → with_names seen (drop i names) ≡ each_once names → after ≡ with_name seen name
-    → 2 < length after → AreOnce names after
-once_enough names i seen after name below is so_far now many =
+-- more names than the limit were seen, so there are more
+pub once_enough : (limit : ℕ) (names : List (List ℕ)) (i : ℕ) (seen after : List (List ℕ)) (name : List ℕ) → i < length names → name ≡ get_or names i name → with_names seen (drop i names) ≡ each_once names → after ≡ with_name seen name
+    → limit < length after → AreOnce limit names after
+once_enough limit names i seen after name below is so_far now many =
     let rest : drop i names ≡ name ∷ drop (suc i) names = drop-cons names i name below ∙ ap (λ x. x ∷ drop (suc i) names) (sym is) in
     let whole : each_once names ≡ with_names (with_name seen name) (drop (suc i) names) = sym so_far ∙ ap (with_names seen) rest in
     let long = with_names_longer (with_name seen name) (drop (suc i) names) in

@@ -4,3 +4,4 @@ pub mod Faults
 pub mod Sources
 pub mod Problems
 pub mod Traces
+pub mod Laws

@@ -25,9 +25,9 @@ with_names seen (name ∷ rest) = with_names (with_name seen name) rest
 abbrev pub each_once : List (List ℕ) → List (List ℕ)
 each_once names = with_names [] names
 
--- Each name once, or, of more than two names, as many as show that. Only private contracts cite this.
-abbrev pub AreOnce : List (List ℕ) → List (List ℕ) → Type 0
-AreOnce names once = (once ≡ each_once names) ⊎ ((2 < length once) × (2 < length (each_once names)))
+-- Each name once, or, of more names than the limit, as many as show that. Only private contracts cite this.
+abbrev pub AreOnce : ℕ → List (List ℕ) → List (List ℕ) → Type 0
+AreOnce limit names once = (once ≡ each_once names) ⊎ ((limit < length once) × (limit < length (each_once names)))
 
 -- the bytes of each vector
 abbrev pub bytes_of : List (Vec ℕ Global) → List (List ℕ)

@@ -1,13 +1,14 @@
 -- The problem of items: hypotheses, conjecture and symbols, or the first fault.
-use Rattle.std.specs.Prelude.{◌≡◌, ℕ, ◌+◌, Bool, not, ◌&&◌, ◌||◌, if◌then◌else◌, List, [], ◌∷◌, Option, Some, None, Result, Ok, Err, length, map, filter, codes, option_to_list, ◌++◌}
+use Rattle.std.specs.Prelude.{◌≡◌, All, ℕ, ◌+◌, Bool, not, ◌&&◌, ◌||◌, if◌then◌else◌, List, [], ◌∷◌, Option, Some, None, Result, Ok, Err, length, map, filter, codes, option_to_list, ◌++◌}
 use Rattle.std.specs.List.{list_any}
 use Rattle.std.specs.Option.{option_or}
-use Rattle.dk_syntax.specs.Problems.{HasItsSymbols}
+use Rattle.dk_syntax.specs.Problems.{formulas_of, HasItsSymbols}
 use Rattle.dk_syntax.specs.declared.Named.{Named}
 use Rattle.dk_syntax.specs.declared.Problem.{Problem}
 use Rattle.tptp_text.specs.declared.Body.{Body}
 use Rattle.tptp_text.specs.declared.Body.TheVariants.{Plain, Outside as OutsideBody}
 use Rattle.tptp_text.specs.declared.Item.{Item}
+use Rattle.tptp_text.specs.ProperItems.{IsProper}
 use Rattle.tstp_trace.specs.Faults.{AreSound, IsFirstFault}
 use Rattle.tstp_trace.specs.Names.{is_among}
 use Rattle.tstp_trace.specs.declared.fault.ProblemFault.{ProblemFault}
@@ -82,6 +83,10 @@ IsProblemAnswer items (Err fault) = IsFirstFault item_fault items fault
 -- the names of a problem's hypotheses and of its conjecture
 abbrev pub names_of : Problem → List (List ℕ)
 names_of problem = map (λ named. named.name) problem.hyps ++ map (λ named. named.name) (option_to_list problem.conjecture)
+
+-- Each formula of the problem is closed and well-formed, and has no Any.
+abbrev pub HasProperFormulas : Problem → Type 0
+HasProperFormulas problem = All IsProper (formulas_of problem)
 
 -- The answer on an item: its formula with its name, or its fault. Only private contracts cite this.
 abbrev pub IsNamedAnswer : List (List ℕ) → Bool → ℕ → Item → Result Named ProblemFault → Type 0

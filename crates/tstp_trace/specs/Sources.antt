@@ -82,7 +82,11 @@ source_of name source = source_by name source (out-Source source)
 abbrev pub is_known_status : List ℕ → Bool
 is_known_status status = is_among (codes "thm" ∷ codes "cth" ∷ codes "esa" ∷ []) status
 
--- of inferences with these statuses and so many parents: two negations, or a negation or a Skolem step with two parents
+-- the most parents that a step may have
+abbrev pub most_parents : ℕ
+most_parents = 8
+
+-- of inferences with these statuses and so many parents: two negations or more, or a negation or a Skolem step with two parents or more
 abbrev pub is_mixed : List (List ℕ) → ℕ → Bool
 is_mixed statuses parents =
     nat_lt 1 (count_by (pointwise nat_eq (codes "cth")) statuses)
@@ -94,7 +98,7 @@ parts_fault derived statuses parents =
     if not derived then Some Word else
     (if not (list_all is_known_status statuses) then Some Status else
     (if nat_eq parents 0 then Some NoParent else
-    (if nat_lt 2 parents then Some ManyParents else
+    (if nat_lt most_parents parents then Some ManyParents else
     (if is_mixed statuses parents then Some Mixed else None))))
 
 -- the same of a source that is no leaf

@@ -1,12 +1,13 @@
 -- The trace of items: a step an item, or the first fault.
-use Rattle.std.specs.Prelude.{◌≡◌, ℕ, ◌+◌, ◌<◌, ◌≤◌, ◌||◌, IsTrue, if◌then◌else◌, List, Option, Some, None, Result, Ok, Err, length, map, slice_get}
+use Rattle.std.specs.Prelude.{◌≡◌, All, ℕ, ◌+◌, ◌<◌, ◌≤◌, ◌||◌, IsTrue, if◌then◌else◌, List, Option, Some, None, Result, Ok, Err, length, map, slice_get}
 use Rattle.std.specs.Option.{option_map, option_or}
+use Rattle.tptp_text.specs.ProperItems.{IsProper}
 use Rattle.tptp_text.specs.declared.Body.{Body}
 use Rattle.tptp_text.specs.declared.Body.TheVariants.{Plain, Outside as OutsideBody}
 use Rattle.tptp_text.specs.declared.Item.{Item}
 use Rattle.tstp_trace.specs.Faults.{AreSound, IsFirstFault}
 use Rattle.tstp_trace.specs.Names.{AreDistinct, is_among}
-use Rattle.tstp_trace.specs.Sources.{derivation_fault, derived_by, source_of, source_fault}
+use Rattle.tstp_trace.specs.Sources.{derivation_fault, derived_by, most_parents, source_of, source_fault}
 use Rattle.tptp_text.specs.declared.Source.{Source}
 use Rattle.tstp_trace.specs.declared.fault.TraceFault.{TraceFault}
 use Rattle.tstp_trace.specs.declared.fault.TraceFault.TheVariants.{Outside, DuplicateName, Unsupported, Memory}
@@ -66,14 +67,18 @@ IsTraceAnswer items (Err fault) = IsFirstFault step_fault items fault
 abbrev pub names_of : Trace → List (List ℕ)
 names_of trace = map (λ step. step.name) trace.steps
 
--- A derived step has one parent, or two that differ where it is neither a negation nor a Skolem step.
+-- A derived step has from one to eight parents, which differ, and only one where it is a negation or a Skolem step.
 abbrev pub HasFitParents : StepSource → Type 0
 HasFitParents (Leaf name) = Unit {0}
 HasFitParents (Derived cth esa parents) =
-    AreDistinct parents × (0 < length parents) × (length parents ≤ 2) × (IsTrue (cth || esa) → length parents ≡ 1)
+    AreDistinct parents × (0 < length parents) × (length parents ≤ most_parents) × (IsTrue (cth || esa) → length parents ≡ 1)
 
 abbrev pub HaveFitParents : List Step → Type 0
 HaveFitParents steps = (place : ℕ) (step : Step) → slice_get steps place ≡ Some step → HasFitParents step.source
+
+-- Each step's formula is closed and well-formed, and has no Any.
+abbrev pub HasProperSteps : Trace → Type 0
+HasProperSteps trace = All (λ step. IsProper step.formula) trace.steps
 
 -- ---- what is said while a trace is built; only private contracts cite these words
 

@@ -5,7 +5,7 @@ ghost use Rattle.tstp_trace.specs.Traces.{IsDerivation, IsSourceAnswer};
 
 use crate::fault::{TraceFault, Unsupported};
 use crate::sources::{add_names, add_statuses, is_derived};
-use crate::step::StepSource;
+use crate::step::{MAX_PARENTS, StepSource};
 use crate::words::{all_known, has_word, has_word_twice, once};
 use dk_syntax::{Name, Seq};
 use std::alloc::Global;
@@ -24,7 +24,7 @@ fn fault_of_parts(derived: bool, statuses: &[Name], parents: usize) -> Option<Un
     if parents == 0 {
         return Some(Unsupported::NoParent);
     }
-    if 2 < parents {
+    if MAX_PARENTS < parents {
         return Some(Unsupported::ManyParents);
     }
     let flagged = has_word(statuses, b"cth") || has_word(statuses, b"esa");
@@ -55,7 +55,8 @@ fn derivation(alloc: Global, step: u32, source: &Source) -> Result<StepSource, T
 }
 
 fn leaf(alloc: Global, name: &Name) -> Result<StepSource, TraceFault>
-    ensures { MatchResult result (λ found. found ≡ StepSource.Leaf name.now) (λ fault. fault ≡ TraceFault.Memory) }
+    ensures { MatchResult result (λ found. found ≡ StepSource.Leaf name.now)
+        (λ fault. fault ≡ TraceFault.Memory) }
 {
     let name = name.copy(alloc)?;
     Ok(StepSource::Leaf(name))

@@ -7,8 +7,9 @@
 //!
 //! Any items are taken. Of a trace's item the role, the language and the free variable don't matter; of a
 //! problem's item the source and the language don't. The names of a problem and of a trace are distinct, and a
-//! derived step has one parent, or two that differ where it is neither a negation nor a Skolem step. Formulas
-//! are those of the items.
+//! derived step has from one to eight parents, which differ, and only one where it is a negation or a Skolem
+//! step: the names of parents are collected only until there are more than eight. Formulas are those of the items.
+//! Laws for the crates above stand in `proofs/AnswerLaws` (items have one problem and one trace).
 //!
 //! The cost is linear in the items, with names and symbols looked up by hashes, but for the symbols of one
 //! formula, which cost their occurrences times their number. Calls nest as deep as the inferences of a source.
@@ -16,6 +17,7 @@
 
 mod derivations;
 mod fault;
+mod laws;
 mod names;
 mod problems;
 mod sources;
@@ -26,9 +28,6 @@ mod words;
 
 pub use dk_syntax::{Named, Problem};
 pub use fault::{ProblemFault, TraceFault, Unsupported};
-pub use problems::build_problem;
-pub use step::{Step, StepSource, Trace};
-pub use traces::build_trace;
-
-#[cfg(test)]
-mod tests;
+pub use problems::{build_problem, problem_from};
+pub use step::{MAX_PARENTS, Step, StepSource, Trace};
+pub use traces::{build_trace, trace_from};

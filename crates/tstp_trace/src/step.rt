@@ -1,6 +1,9 @@
 //! Traces.
 use dk_syntax::{Formula, Name, Seq};
 
+/// The most parents that a step may have.
+pub const MAX_PARENTS: usize = 8;
+
 /// Where a step comes from.
 #[derive(Debug, Drop)]
 pub enum StepSource {

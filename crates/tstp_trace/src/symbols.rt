@@ -25,7 +25,8 @@ fn key_of(alloc: Global, symbol: &SymKey) -> Result<Key, NoMemory>
 
 /// Adds the symbol, unless it is there.
 fn add_symbol(alloc: Global, keys: &mut IndexSet<Key>, symbol: &SymKey) -> Result<(), NoMemory>
-    ensures { OnOk result (symbols_in keys.new.keys ≡ with_symbol (symbols_in keys.old.keys) symbol.now) }
+    ensures { OnOk result (symbols_in keys.new.keys
+        ≡ with_symbol (symbols_in keys.old.keys) symbol.now) }
 {
     let key = key_of(alloc, symbol)?;
     keys.insert(key)?;
@@ -33,7 +34,8 @@ fn add_symbol(alloc: Global, keys: &mut IndexSet<Key>, symbol: &SymKey) -> Resul
 }
 
 fn add_symbols(alloc: Global, keys: &mut IndexSet<Key>, symbols: &[SymKey]) -> Result<(), NoMemory>
-    ensures { OnOk result (symbols_in keys.new.keys ≡ with_symbols (symbols_in keys.old.keys) symbols.now) }
+    ensures { OnOk result (symbols_in keys.new.keys
+        ≡ with_symbols (symbols_in keys.old.keys) symbols.now) }
 {
     for symbol in symbols {
         add_symbol(alloc, keys, symbol)?;
@@ -47,7 +49,8 @@ pub fn add_symbols_of(
     keys: &mut IndexSet<Key>,
     formula: &Formula,
 ) -> Result<(), NoMemory>
-    ensures { OnOk result (symbols_in keys.new.keys ≡ with_symbols (symbols_in keys.old.keys) (formula_occurrences formula.now)) }
+    ensures { OnOk result (symbols_in keys.new.keys
+        ≡ with_symbols (symbols_in keys.old.keys) (formula_occurrences formula.now)) }
 {
     let symbols = symbols_of(alloc, formula)?;
     add_symbols(alloc, keys, symbols.as_slice())?;

@@ -3,8 +3,9 @@ ghost use Rattle.std.specs.Prelude.{◌≡◌, nat_eq, nat_lt, count_by, IfOk, O
 ghost use Rattle.std.specs.Cmp.Lexicographic.{pointwise};
 ghost use Rattle.std.specs.List.{list_all};
 ghost use Rattle.tstp_trace.specs.Names.{AreOnce, is_among, with_name};
-ghost use Rattle.tstp_trace.specs.Sources.{is_known_status};
+ghost use Rattle.tstp_trace.specs.Sources.{is_known_status, most_parents};
 
+use crate::step::MAX_PARENTS;
 use dk_syntax::{Name, NoMemory, Seq};
 use std::alloc::Global;
 
@@ -74,12 +75,12 @@ fn add_once(alloc: Global, seen: &mut Seq<Name>, name: &Name) -> Result<(), NoMe
 
 /// Each name once, by first occurrence; of more than a step may have, as many as show that.
 pub fn once(alloc: Global, names: &[Name]) -> Result<Seq<Name>, NoMemory>
-    ensures { IfOk result (λ once. AreOnce names.now once) }
+    ensures { IfOk result (λ once. AreOnce most_parents names.now once) }
 {
     let mut seen = Seq::from_vec(Vec::new(alloc));
     for name in names {
         add_once(alloc, &mut seen, name)?;
-        if 2 < seen.len() {
+        if MAX_PARENTS < seen.len() {
             return Ok(seen);
         }
     }

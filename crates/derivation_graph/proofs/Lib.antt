@@ -3,5 +3,8 @@ pub mod AgendaLaws
 pub mod OrderExists
 pub mod OrderLaws
 pub mod ReachLaws
+pub mod RankLaws
+pub mod AnswerLaws
+pub mod RootLaws
 pub mod NameLaws
 pub mod GraphLaws

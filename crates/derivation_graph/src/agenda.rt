@@ -24,9 +24,13 @@ fn place(rows: &[Seq<u32>], marks: &[bool], agenda: &mut Agenda, step: u32) -> R
     requires parents { HasStepsForParents rows.now }
     requires long { length agenda.old.waiting.items ≡ length rows.now + 1 }
     ensures long { OnOk result (length agenda.new.waiting.items ≡ length rows.now + 1) }
-    ensures placed { OnOk result (IsStep rows.now step → IsUnmarked marks.now step → IsPlaced rows.now marks.now agenda.new.ready agenda.new.waiting.items step) }
-    ensures kept { OnOk result ((q : ℕ) → IsPlaced rows.now marks.now agenda.old.ready agenda.old.waiting.items q → IsPlaced rows.now marks.now agenda.new.ready agenda.new.waiting.items q) }
-    ensures ready { OnOk result ((q : ℕ) → IsIn agenda.new.ready q → IsIn agenda.old.ready q ⊎ IsOpen rows.now marks.now q) }
+    ensures placed { OnOk result (IsStep rows.now step → IsUnmarked marks.now step
+        → IsPlaced rows.now marks.now agenda.new.ready agenda.new.waiting.items step) }
+    ensures kept { OnOk result ((q : ℕ) → IsPlaced rows.now marks.now agenda.old.ready
+        agenda.old.waiting.items q → IsPlaced rows.now marks.now agenda.new.ready
+        agenda.new.waiting.items q) }
+    ensures ready { OnOk result ((q : ℕ) → IsIn agenda.new.ready q → IsIn agenda.old.ready q
+        ⊎ IsOpen rows.now marks.now q) }
 {
     if !is_unmarked_step(rows, marks, step) {
         return Ok(());
@@ -49,7 +53,8 @@ fn release(
     requires parents { HasStepsForParents rows.now }
     requires stands { IsStep rows.now step }
     requires marked { IsMarked marks.now step }
-    requires fits { Fits rows.now marks.now agenda.old.ready agenda.old.waiting.items (get_or agenda.old.waiting.items step []) }
+    requires fits { Fits rows.now marks.now agenda.old.ready agenda.old.waiting.items
+        (get_or agenda.old.waiting.items step []) }
     ensures { OnOk result (Fits rows.now marks.now agenda.new.ready agenda.new.waiting.items []) }
 {
     let nobody = Seq::from_vec(Vec::new(alloc));
@@ -102,8 +107,10 @@ pub fn list_next(
     requires turns { AreTurns rows.now marks.old.items list.old.items }
     requires fits { Fits rows.now marks.old.items agenda.old.ready agenda.old.waiting.items [] }
     ensures turns { OnOk result (AreTurns rows.now marks.new.items list.new.items) }
-    ensures fits { OnOk result (Fits rows.now marks.new.items agenda.new.ready agenda.new.waiting.items []) }
-    ensures fewer { IfOk result (λ more. OnTrue more (count_by not marks.new.items < count_by not marks.old.items)) }
+    ensures fits { OnOk result (Fits rows.now marks.new.items agenda.new.ready
+        agenda.new.waiting.items []) }
+    ensures fewer { IfOk result (λ more. OnTrue more
+        (count_by not marks.new.items < count_by not marks.old.items)) }
     ensures stuck { IfOk result (λ more. OnFalse more (AreStuck rows.now list.new.items)) }
 {
     let Some(step) = take_least(&mut agenda.ready) else {

@@ -32,7 +32,8 @@ pub fn list_ready(alloc: Global, rows: &[Seq<u32>]) -> Result<Listing, NoMemory>
     requires { HasStepsForParents rows.now }
     ensures turns { IfOk result (λ listing. ComeAfter rows.now [] listing.list.items) }
     ensures stuck { IfOk result (λ listing. AreStuck rows.now listing.list.items) }
-    ensures whole { IfOk result (λ listing. IsTrue listing.whole → ListsAll rows.now listing.list.items) }
+    ensures whole { IfOk result (λ listing. IsTrue listing.whole
+        → ListsAll rows.now listing.list.items) }
 {
     let mut marks = vec![in alloc; false; rows.len() + 1]?;
     let mut agenda = begin(alloc, rows, marks.as_slice())?;

@@ -17,9 +17,12 @@ pub fn put(set: &mut BTreeSet<u32>, number: u32) -> Result<(), NoMemory>
 
 /// Takes the least number of the set.
 pub fn take_least(set: &mut BTreeSet<u32>) -> Option<u32>
-    ensures least { MatchOption result ((n : ℕ) → IsIn set.old n → ⊥) (λ least. IsIn set.old least × ((n : ℕ) → IsIn set.old n → least ≤ n)) }
-    ensures others { MatchOption result ((n : ℕ) → IsIn set.new n → ⊥) (λ least. (n : ℕ) → IsIn set.new n → IsIn set.old n × (n ≢ least)) }
-    ensures kept { MatchOption result ((n : ℕ) → IsIn set.old n → ⊥) (λ least. (n : ℕ) → IsIn set.old n → (n ≡ least) ⊎ IsIn set.new n) }
+    ensures least { MatchOption result ((n : ℕ) → IsIn set.old n → ⊥)
+        (λ least. IsIn set.old least × ((n : ℕ) → IsIn set.old n → least ≤ n)) }
+    ensures others { MatchOption result ((n : ℕ) → IsIn set.new n → ⊥)
+        (λ least. (n : ℕ) → IsIn set.new n → IsIn set.old n × (n ≢ least)) }
+    ensures kept { MatchOption result ((n : ℕ) → IsIn set.old n → ⊥)
+        (λ least. (n : ℕ) → IsIn set.old n → (n ≡ least) ⊎ IsIn set.new n) }
 {
     set.pop_first()
 }

@@ -34,7 +34,9 @@ pub fn is_unmarked_step(rows: &[Seq<u32>], marks: &[bool], number: u32) -> bool
 
 /// The first of the parents that isn't marked.
 pub fn first_unmarked(marks: &[bool], parents: &[u32]) -> Option<u32>
-    ensures { MatchOption result ((parent : ℕ) → Contains parents.now parent → IsMarked marks.now parent) (λ parent. Contains parents.now parent × IsUnmarked marks.now parent) }
+    ensures { MatchOption result ((parent : ℕ) → Contains parents.now parent
+        → IsMarked marks.now parent) (λ parent. Contains parents.now parent
+        × IsUnmarked marks.now parent) }
 {
     for parent in parents {
         if !is_marked(marks, *parent) {

@@ -10,7 +10,7 @@ use Rattle.normal_form.proofs.BoolLaws.{or_false, or_left_step, or_of_left, or_o
 use Rattle.normal_form.proofs.FormEquations.{in-Any, in-App, in-Var, value-Any, value-App, value-Var}
 use Rattle.normal_form.specs.ClauseLists.{has_number, literal_variables, variables_of}
 use Rattle.normal_form.specs.ClauseTruth.{clause_truth}
-use Rattle.normal_form.specs.Occurrence.{any_true, in_term}
+use Rattle.normal_form.specs.Occurrence.{any_true, has_variable}
 use Rattle.normal_form.specs.Truth.{Interpretation, literal_truth, signed, value}
 
 pub same_number : (n : ℕ) → nat_eq n n ≡ true
@@ -24,9 +24,9 @@ has-append (x ∷ xs) ys k = ap (λ z. nat_eq x k || z) (has-append xs ys k) ∙
 
 -- the term's list has the variables that occur in it
 abbrev pub ListsVariables : Term → Type 0
-ListsVariables t = (k : ℕ) → has_number (variables_of t) k ≡ in_term k t
+ListsVariables t = (k : ℕ) → has_number (variables_of t) k ≡ has_variable k t
 
-terms_list : (ts : List Term) → Each ListsVariables ts → (k : ℕ) → has_number (joined (map variables_of ts)) k ≡ any_true (map (in_term k) ts)
+terms_list : (ts : List Term) → Each ListsVariables ts → (k : ℕ) → has_number (joined (map variables_of ts)) k ≡ any_true (map (has_variable k) ts)
 terms_list [] h k = refl
 terms_list (t ∷ ts) h k = has-append (variables_of t) (joined (map variables_of ts)) k ∙ ap₂ (λ a b. a || b) (h.0 k) (terms_list ts h.1 k)
 
@@ -45,7 +45,7 @@ term_lists = term_induction ListsVariables
     (λ s args h k. ap (λ ns. has_number ns k) (variables-App s args) ∙ terms_list args h k ∙ sym (in-App k s args))
     (λ k. ap (λ ns. has_number ns k) variables-Any ∙ sym (in-Any k))
 
-literal_lists : (l : Literal) (k : ℕ) → has_number (literal_variables l) k ≡ any_true (map (in_term k) l.args)
+pub literal_lists : (l : Literal) (k : ℕ) → has_number (literal_variables l) k ≡ any_true (map (has_variable k) l.args)
 literal_lists l = terms_list l.args (each_of ListsVariables term_lists l.args)
 
 -- ---- values that agree
@@ -53,13 +53,13 @@ literal_lists l = terms_list l.args (each_of ListsVariables term_lists l.args)
 module _ {D : Type 0} (i : Interpretation D) (e v : ℕ → D) where
   -- the term's value is the same at both, where they are the same for the variables that occur in it
   abbrev pub TermAgrees : Term → Type 0
-  TermAgrees t = ((k : ℕ) → in_term k t ≡ true → e k ≡ v k) → value i e t ≡ value i v t
+  TermAgrees t = ((k : ℕ) → has_variable k t ≡ true → e k ≡ v k) → value i e t ≡ value i v t
 
-  terms_agree : (ts : List Term) → Each TermAgrees ts → ((k : ℕ) → any_true (map (in_term k) ts) ≡ true → e k ≡ v k) → map (value i e) ts ≡ map (value i v) ts
+  terms_agree : (ts : List Term) → Each TermAgrees ts → ((k : ℕ) → any_true (map (has_variable k) ts) ≡ true → e k ≡ v k) → map (value i e) ts ≡ map (value i v) ts
   terms_agree [] h same = refl
   terms_agree (t ∷ ts) h same =
-      ap₂ (λ x xs. x ∷ xs) (h.0 (λ k o. same k (or_of_left (in_term k t) (any_true (map (in_term k) ts)) o)))
-      (terms_agree ts h.1 (λ k o. same k (or_of_right (in_term k t) (any_true (map (in_term k) ts)) o)))
+      ap₂ (λ x xs. x ∷ xs) (h.0 (λ k o. same k (or_of_left (has_variable k t) (any_true (map (has_variable k) ts)) o)))
+      (terms_agree ts h.1 (λ k o. same k (or_of_right (has_variable k t) (any_true (map (has_variable k) ts)) o)))
 
   term_agrees : (t : Term) → TermAgrees t
   term_agrees = term_induction TermAgrees
@@ -67,7 +67,7 @@ module _ {D : Type 0} (i : Interpretation D) (e v : ℕ → D) where
       (λ s args h same. value-App i e s args ∙ ap (i.function s) (terms_agree args h (λ k o. same k (in-App k s args ∙ o))) ∙ sym (value-App i v s args))
       (λ same. value-Any i e ∙ sym (value-Any i v))
 
-  pub literal_agrees : (l : Literal) → ((k : ℕ) → any_true (map (in_term k) l.args) ≡ true → e k ≡ v k) → literal_truth i e l ≡ literal_truth i v l
+  pub literal_agrees : (l : Literal) → ((k : ℕ) → any_true (map (has_variable k) l.args) ≡ true → e k ≡ v k) → literal_truth i e l ≡ literal_truth i v l
   literal_agrees l same = ap (λ vs. signed l.positive (i.predicate l.pred vs)) (terms_agree l.args (each_of TermAgrees term_agrees l.args) same)
 
   pub clause_agrees : (lits : List Literal) → ((k : ℕ) → has_number (joined (map literal_variables lits)) k ≡ true → e k ≡ v k) → clause_truth i e lits ≡ clause_truth i v lits

@@ -12,20 +12,20 @@ use Rattle.normal_form.proofs.FormEquations.{in-All, in-And, in-App, in-Ex, in-L
 use Rattle.normal_form.proofs.FormInduction.{form_induction}
 use Rattle.normal_form.specs.Drafts.{Fits, renamed_form, under}
 use Rattle.normal_form.specs.Lowered.{lowered, lowered_literal, lowered_term}
-use Rattle.normal_form.specs.Occurrence.{any_true, in_form, in_term}
+use Rattle.normal_form.specs.Occurrence.{any_true, in_form, has_variable}
 use Rattle.normal_form.specs.Renaming.{kept_number, renamed, renamed_literal}
 use Rattle.normal_form.specs.declared.form.Nf.{Nf, the_lemmas as of_forms}
 use Rattle.normal_form.specs.declared.form.Nf.TheVariants as nf
 
 -- ---- what renaming says of each kind of term and form
 
-renamed-Var : (p : ℕ → ℕ) (n : ℕ) → renamed p (Var n) ≡ Var (p n)
+pub renamed-Var : (p : ℕ → ℕ) (n : ℕ) → renamed p (Var n) ≡ Var (p n)
 renamed-Var p n = search (rules, of_terms)
 
-renamed-App : (p : ℕ → ℕ) (s : SymKey) (args : List Term) → renamed p (App s args) ≡ App s (map (renamed p) args)
+pub renamed-App : (p : ℕ → ℕ) (s : SymKey) (args : List Term) → renamed p (App s args) ≡ App s (map (renamed p) args)
 renamed-App p s args = search (rules, of_terms)
 
-renamed-Any : (p : ℕ → ℕ) → renamed p Any ≡ Any
+pub renamed-Any : (p : ℕ → ℕ) → renamed p Any ≡ Any
 renamed-Any p = search (rules, of_terms)
 
 pub renamed-True : (p : ℕ → ℕ) → renamed_form nf.True p ≡ nf.True
@@ -60,7 +60,7 @@ skips_under k p q h zero = (λ l. refl, λ l. absurd (omega arith))
 skips_under k p q h (suc n) = (λ l. ap suc ((h n).0 (omega arith)), λ l. ap suc ((h n).1 (omega arith)))
 
 abbrev pub TermSkips : (k : ℕ) (p q : ℕ → ℕ) → Term → Type 0
-TermSkips k p q t = in_term k t ≡ false → renamed p (lowered_term k t) ≡ renamed q t
+TermSkips k p q t = has_variable k t ≡ false → renamed p (lowered_term k t) ≡ renamed q t
 
 var_stays_below : (k : ℕ) (p q : ℕ → ℕ) (n : ℕ) → p n ≡ q n → nat_lt k n ≡ false → renamed p (lowered_term k (Var n)) ≡ renamed q (Var n)
 var_stays_below k p q n same l =
@@ -83,11 +83,11 @@ var_skips k p q h (suc n) o = elim (test_cases (nat_lt k (suc n))) [
       var_stays_below k p q (suc n) ((h (suc n)).0 b) l
 ]
 
-args_skip : (k : ℕ) (p q : ℕ → ℕ) (ts : List Term) → Each (TermSkips k p q) ts → any_true (map (in_term k) ts) ≡ false → map (renamed p) (map (lowered_term k) ts) ≡ map (renamed q) ts
+args_skip : (k : ℕ) (p q : ℕ → ℕ) (ts : List Term) → Each (TermSkips k p q) ts → any_true (map (has_variable k) ts) ≡ false → map (renamed p) (map (lowered_term k) ts) ≡ map (renamed q) ts
 args_skip k p q [] h o = refl
 args_skip k p q (t ∷ ts) h o =
-    ap₂ (λ x xs. x ∷ xs) (h.0 (left_false (in_term k t) (any_true (map (in_term k) ts)) o))
-    (args_skip k p q ts h.1 (right_false (in_term k t) (any_true (map (in_term k) ts)) o))
+    ap₂ (λ x xs. x ∷ xs) (h.0 (left_false (has_variable k t) (any_true (map (has_variable k) ts)) o))
+    (args_skip k p q ts h.1 (right_false (has_variable k t) (any_true (map (has_variable k) ts)) o))
 
 term_skips : (k : ℕ) (p q : ℕ → ℕ) → Skips k p q → (t : Term) → TermSkips k p q t
 term_skips k p q skips = term_induction (TermSkips k p q)

@@ -5,7 +5,7 @@ use Rattle.dk_syntax.specs.declared.SymKey.{SymKey}
 use Rattle.dk_syntax.specs.declared.Term.{Any, App, Term, Var, the_lemmas as of_terms}
 use Rattle.normal_form.specs.Lowered.{lowered, lowered_literal, lowered_term}
 use Rattle.normal_form.specs.Normal.{nodes_of}
-use Rattle.normal_form.specs.Occurrence.{any_true, in_form, in_term}
+use Rattle.normal_form.specs.Occurrence.{any_true, in_form, has_variable}
 use Rattle.normal_form.specs.Truth.{Interpretation, form_truth, literal_truth, value, with_value}
 use Rattle.normal_form.specs.declared.form.Nf.{Nf, the_lemmas as of_forms}
 use Rattle.normal_form.specs.declared.form.Nf.TheVariants as nf
@@ -30,13 +30,13 @@ lowered-App k s args = search (rules, of_terms)
 pub lowered-Any : (k : ℕ) → lowered_term k Any ≡ Any
 lowered-Any k = search (rules, of_terms)
 
-pub in-Var : (k : ℕ) (n : ℕ) → in_term k (Var n) ≡ nat_eq n k
+pub in-Var : (k : ℕ) (n : ℕ) → has_variable k (Var n) ≡ nat_eq n k
 in-Var k n = search (rules, of_terms)
 
-pub in-App : (k : ℕ) (s : SymKey) (args : List Term) → in_term k (App s args) ≡ any_true (map (in_term k) args)
+pub in-App : (k : ℕ) (s : SymKey) (args : List Term) → has_variable k (App s args) ≡ any_true (map (has_variable k) args)
 in-App k s args = search (rules, of_terms)
 
-pub in-Any : (k : ℕ) → in_term k Any ≡ false
+pub in-Any : (k : ℕ) → has_variable k Any ≡ false
 in-Any k = search (rules, of_terms)
 
 -- ---- forms
@@ -68,7 +68,7 @@ in-True k = search (rules, of_forms)
 pub in-False : (k : ℕ) → in_form nf.False k ≡ false
 in-False k = search (rules, of_forms)
 
-pub in-Lit : (k : ℕ) (l : Literal) → in_form (nf.Lit l) k ≡ any_true (map (in_term k) l.args)
+pub in-Lit : (k : ℕ) (l : Literal) → in_form (nf.Lit l) k ≡ any_true (map (has_variable k) l.args)
 in-Lit k l = search (rules, of_forms)
 
 pub in-And : (k : ℕ) (a : Nf) (b : Nf) → in_form (nf.And a b) k ≡ in_form a k || in_form b k

@@ -5,7 +5,7 @@ use Rattle.dk_syntax.specs.declared.Formula.TheVariants as formula
 use Rattle.dk_syntax.specs.declared.SymKey.{SymKey}
 use Rattle.dk_syntax.specs.declared.Term.{Term}
 use Rattle.normal_form.specs.Normal.{all_of, ex_of, literal_of, normal_of}
-use Rattle.normal_form.specs.Occurrence.{any_true, in_formula, in_term}
+use Rattle.normal_form.specs.Occurrence.{any_true, in_formula, has_variable}
 use Rattle.normal_form.specs.Truth.{Interpretation, truth, value, with_value}
 use Rattle.normal_form.specs.declared.form.Nf.TheVariants as nf
 
@@ -99,7 +99,7 @@ occurs-True k = search (rules, of_formulas)
 pub occurs-False : (k : ℕ) → in_formula formula.False k ≡ false
 occurs-False k = search (rules, of_formulas)
 
-pub occurs-Atom : (k : ℕ) (s : SymKey) (args : List Term) → in_formula (formula.Atom s args) k ≡ any_true (map (in_term k) args)
+pub occurs-Atom : (k : ℕ) (s : SymKey) (args : List Term) → in_formula (formula.Atom s args) k ≡ any_true (map (has_variable k) args)
 occurs-Atom k s args = search (rules, of_formulas)
 
 pub occurs-Not : (k : ℕ) (a : Formula) → in_formula (formula.Not a) k ≡ in_formula a k

@@ -11,7 +11,7 @@ use Rattle.normal_form.proofs.FormInduction.{form_induction}
 use Rattle.normal_form.proofs.PutValue.{put_above, put_below, put_value}
 use Rattle.normal_form.specs.Lowered.{lowered, lowered_literal, lowered_term}
 use Rattle.normal_form.specs.Normal.{nodes_of}
-use Rattle.normal_form.specs.Occurrence.{any_true, in_form, in_term}
+use Rattle.normal_form.specs.Occurrence.{any_true, in_form, has_variable}
 use Rattle.normal_form.specs.Truth.{Interpretation, form_truth, signed, value, with_value}
 use Rattle.normal_form.specs.declared.form.Nf.{Nf, the_lemmas as of_forms}
 
@@ -19,7 +19,7 @@ use Rattle.normal_form.specs.declared.form.Nf.{Nf, the_lemmas as of_forms}
 
 -- a term from which the variable k is absent has its value whatever stands at place k
 abbrev pub TermLowers : {D : Type 0} (i : Interpretation D) (k : ℕ) (d : D) (e : ℕ → D) → Term → Type 0
-TermLowers i k d e t = in_term k t ≡ false → value i e (lowered_term k t) ≡ value i (put_value k d e) t
+TermLowers i k d e t = has_variable k t ≡ false → value i e (lowered_term k t) ≡ value i (put_value k d e) t
 
 var_lowers : {D : Type 0} (i : Interpretation D) (k : ℕ) (d : D) (e : ℕ → D) (n : ℕ) → TermLowers i k d e (Var n)
 var_lowers i k d e zero o = elim (test_cases (nat_lt k zero)) [
@@ -38,11 +38,11 @@ var_lowers i k d e (suc n) o = elim (test_cases (nat_lt k (suc n))) [
       ap (value i e) (lowered-Var k (suc n) ∙ ap (λ x. if x then Var (suc n - 1) else Var (suc n)) p) ∙ value-Var i e (suc n) ∙ sym (put_below k (suc n) d e b) ∙ sym (value-Var i (put_value k d e) (suc n))
 ]
 
-args_lower : {D : Type 0} (i : Interpretation D) (k : ℕ) (d : D) (e : ℕ → D) (ts : List Term) → Each (TermLowers i k d e) ts → any_true (map (in_term k) ts) ≡ false → map (value i e) (map (lowered_term k) ts) ≡ map (value i (put_value k d e)) ts
+args_lower : {D : Type 0} (i : Interpretation D) (k : ℕ) (d : D) (e : ℕ → D) (ts : List Term) → Each (TermLowers i k d e) ts → any_true (map (has_variable k) ts) ≡ false → map (value i e) (map (lowered_term k) ts) ≡ map (value i (put_value k d e)) ts
 args_lower i k d e [] h o = refl
 args_lower i k d e (t ∷ ts) h o =
-    let a = h.0 (left_false (in_term k t) (any_true (map (in_term k) ts)) o) in
-    let b = args_lower i k d e ts h.1 (right_false (in_term k t) (any_true (map (in_term k) ts)) o) in cc
+    let a = h.0 (left_false (has_variable k t) (any_true (map (has_variable k) ts)) o) in
+    let b = args_lower i k d e ts h.1 (right_false (has_variable k t) (any_true (map (has_variable k) ts)) o) in cc
 
 term_lowers : {D : Type 0} (i : Interpretation D) (k : ℕ) (d : D) (e : ℕ → D) (t : Term) → TermLowers i k d e t
 term_lowers i k d e = term_induction (TermLowers i k d e)
@@ -52,7 +52,7 @@ term_lowers i k d e = term_induction (TermLowers i k d e)
     ∙ ap (i.function s) (args_lower i k d e args h (sym (in-App k s args) ∙ o)) ∙ sym (value-App i (put_value k d e) s args))
     (λ o. ap (value i e) (lowered-Any k) ∙ value-Any i e ∙ sym (value-Any i (put_value k d e)))
 
-terms_lower : {D : Type 0} (i : Interpretation D) (k : ℕ) (d : D) (e : ℕ → D) (ts : List Term) → any_true (map (in_term k) ts) ≡ false → map (value i e) (map (lowered_term k) ts) ≡ map (value i (put_value k d e)) ts
+terms_lower : {D : Type 0} (i : Interpretation D) (k : ℕ) (d : D) (e : ℕ → D) (ts : List Term) → any_true (map (has_variable k) ts) ≡ false → map (value i e) (map (lowered_term k) ts) ≡ map (value i (put_value k d e)) ts
 terms_lower i k d e ts = args_lower i k d e ts (each_of (TermLowers i k d e) (term_lowers i k d e) ts)
 
 -- the same of forms
@@ -102,33 +102,33 @@ nodes-lowered = form_induction (λ a. (k : ℕ) → nodes_of (lowered a k) ≡ n
 
 -- a variable of a term that was lowered
 abbrev pub TermMoves : (j k : ℕ) → Term → Type 0
-TermMoves j k t = j ≤ k → in_term j t ≡ false → in_term k (lowered_term j t) ≡ in_term (suc k) t
+TermMoves j k t = j ≤ k → has_variable j t ≡ false → has_variable k (lowered_term j t) ≡ has_variable (suc k) t
 
 var_moves : (j k n : ℕ) → TermMoves j k (Var n)
 var_moves j k n b o =
     let z : nat_eq n j ≡ false = sym (in-Var j n) ∙ o in
     elim (test_cases (nat_lt j n)) [
       | inl p ↦
-          ap (in_term k) (lowered-Var j n ∙ ap (λ x. if x then Var (n - 1) else Var n) p) ∙ in-Var k (n - 1)
+          ap (has_variable k) (lowered-Var j n ∙ ap (λ x. if x then Var (n - 1) else Var n) p) ∙ in-Var k (n - 1)
           ∙ (let h : nat_eq (n - 1) k ≡ nat_eq n (suc k) = grind (arith, nat_tests) in h) ∙ sym (in-Var (suc k) n)
       | inr p ↦
-          ap (in_term k) (lowered-Var j n ∙ ap (λ x. if x then Var (n - 1) else Var n) p) ∙ in-Var k n
+          ap (has_variable k) (lowered-Var j n ∙ ap (λ x. if x then Var (n - 1) else Var n) p) ∙ in-Var k n
           ∙ (let h : nat_eq n k ≡ nat_eq n (suc k) = grind (arith, nat_tests) in h) ∙ sym (in-Var (suc k) n)
     ]
 
-args_move : (j k : ℕ) (ts : List Term) → Each (TermMoves j k) ts → j ≤ k → any_true (map (in_term j) ts) ≡ false → any_true (map (in_term k) (map (lowered_term j) ts)) ≡ any_true (map (in_term (suc k)) ts)
+args_move : (j k : ℕ) (ts : List Term) → Each (TermMoves j k) ts → j ≤ k → any_true (map (has_variable j) ts) ≡ false → any_true (map (has_variable k) (map (lowered_term j) ts)) ≡ any_true (map (has_variable (suc k)) ts)
 args_move j k [] h b o = refl
 args_move j k (t ∷ ts) h b o =
-    ap₂ (λ x y. x || y) (h.0 b (left_false (in_term j t) (any_true (map (in_term j) ts)) o))
-    (args_move j k ts h.1 b (right_false (in_term j t) (any_true (map (in_term j) ts)) o))
+    ap₂ (λ x y. x || y) (h.0 b (left_false (has_variable j t) (any_true (map (has_variable j) ts)) o))
+    (args_move j k ts h.1 b (right_false (has_variable j t) (any_true (map (has_variable j) ts)) o))
 
 term_moves : (j k : ℕ) (t : Term) → TermMoves j k t
 term_moves j k = term_induction (TermMoves j k)
     (var_moves j k)
     (λ s args h b o.
-    ap (in_term k) (lowered-App j s args) ∙ in-App k s (map (lowered_term j) args)
+    ap (has_variable k) (lowered-App j s args) ∙ in-App k s (map (lowered_term j) args)
     ∙ args_move j k args h b (sym (in-App j s args) ∙ o) ∙ sym (in-App (suc k) s args))
-    (λ b o. ap (in_term k) (lowered-Any j) ∙ in-Any k ∙ sym (in-Any (suc k)))
+    (λ b o. ap (has_variable k) (lowered-Any j) ∙ in-Any k ∙ sym (in-Any (suc k)))
 
 abbrev pub FormMoves : Nf → Type 0
 FormMoves a = (j k : ℕ) → j ≤ k → in_form a j ≡ false → in_form (lowered a j) k ≡ in_form a (suc k)

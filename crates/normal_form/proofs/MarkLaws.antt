@@ -11,7 +11,7 @@ use Rattle.dk_syntax.specs.declared.Term.{Term, the_lemmas as of_terms}
 use Rattle.dk_syntax.specs.declared.Term.TheVariants.{App}
 use Rattle.normal_form.proofs.BoolLaws.{or_false, or_left_step, or_true, test_cases}
 use Rattle.normal_form.specs.Marks.{Marked}
-use Rattle.normal_form.specs.Occurrence.{any_true, in_formula, in_term}
+use Rattle.normal_form.specs.Occurrence.{any_true, in_formula, has_variable}
 
 pub marked_none : (marks : List Bool) → Marked (λ k. false) marks marks
 marked_none marks = record { long = refl; marks = λ place k e. sym (or_false (get_or marks place false)) }
@@ -59,19 +59,19 @@ marked_outside s n l = record {
 
 -- ---- lists of terms
 
-any_more : (k : ℕ) (xs : List Term) (i : ℕ) (x : Term) → i < length xs → x ≡ get_or xs i x → (any_true (map (in_term k) (take i xs)) || in_term k x) ≡ any_true (map (in_term k) (take (i + 1) xs))
+any_more : (k : ℕ) (xs : List Term) (i : ℕ) (x : Term) → i < length xs → x ≡ get_or xs i x → (any_true (map (has_variable k) (take i xs)) || has_variable k x) ≡ any_true (map (has_variable k) (take (i + 1) xs))
 any_more k [] i x l e = absurd (omega arith)
-any_more k (y ∷ ys) zero x l e = ap (in_term k) e ∙ sym (or_false (in_term k y))
+any_more k (y ∷ ys) zero x l e = ap (has_variable k) e ∙ sym (or_false (has_variable k y))
 any_more k (y ∷ ys) (suc i) x l e =
     let one : i + 1 ≡ suc i = omega arith in
     simp unary_clauses
-    (sym (or_left_step (in_term k y) (any_true (map (in_term k) (take i ys))) (in_term k x))
-    ∙ ap (λ b. in_term k y || b) (any_more k ys i x (omega arith) e ∙ ap (λ j. any_true (map (in_term k) (take j ys))) one))
+    (sym (or_left_step (has_variable k y) (any_true (map (has_variable k) (take i ys))) (has_variable k x))
+    ∙ ap (λ b. has_variable k y || b) (any_more k ys i x (omega arith) e ∙ ap (λ j. any_true (map (has_variable k) (take j ys))) one))
 
-pub marked_more : (xs : List Term) (i : ℕ) (x : Term) (s m n : List Bool) → i < length xs → x ≡ get_or xs i x → Marked (λ k. any_true (map (in_term k) (take i xs))) s m → Marked (λ k. in_term k x) m n → Marked (λ k. any_true (map (in_term k) (take (i + 1) xs))) s n
+pub marked_more : (xs : List Term) (i : ℕ) (x : Term) (s m n : List Bool) → i < length xs → x ≡ get_or xs i x → Marked (λ k. any_true (map (has_variable k) (take i xs))) s m → Marked (λ k. has_variable k x) m n → Marked (λ k. any_true (map (has_variable k) (take (i + 1) xs))) s n
 marked_more xs i x s m n l e before here =
-    marked_along (λ k. any_true (map (in_term k) (take i xs)) || in_term k x) (λ k. any_true (map (in_term k) (take (i + 1) xs))) s n
-    (λ k. any_more k xs i x l e) (marked_both (λ k. any_true (map (in_term k) (take i xs))) (λ k. in_term k x) s m n before here)
+    marked_along (λ k. any_true (map (has_variable k) (take i xs)) || has_variable k x) (λ k. any_true (map (has_variable k) (take (i + 1) xs))) s n
+    (λ k. any_more k xs i x l e) (marked_both (λ k. any_true (map (has_variable k) (take i xs))) (λ k. has_variable k x) s m n before here)
 
 -- ---- formulas
 
@@ -109,13 +109,13 @@ last_marked f s m rest last known e =
     ∙ known.marks (length s) 0 (let a = one_longer s false in omega arith)
     ∙ ap (λ b. b || f 0) (last_of s false false)
 
-in_application : (k : ℕ) (f : SymKey) (args : List Term) → in_term k (App f args) ≡ any_true (map (in_term k) args)
+in_application : (k : ℕ) (f : SymKey) (args : List Term) → has_variable k (App f args) ≡ any_true (map (has_variable k) args)
 in_application k f args = search (rules, of_terms)
 
-pub marked_application : (t : Term) (f : SymKey) (args zs : List Term) (s n : List Bool) → t ≡ App f args → zs ≡ args → Marked (λ k. any_true (map (in_term k) zs)) s n → Marked (λ k. in_term k t) s n
+pub marked_application : (t : Term) (f : SymKey) (args zs : List Term) (s n : List Bool) → t ≡ App f args → zs ≡ args → Marked (λ k. any_true (map (has_variable k) zs)) s n → Marked (λ k. has_variable k t) s n
 marked_application t f args zs s n e z known =
-    marked_along (λ k. any_true (map (in_term k) zs)) (λ k. in_term k t) s n
-    (λ k. ap (λ us. any_true (map (in_term k) us)) z ∙ sym (ap (in_term k) e ∙ in_application k f args)) known
+    marked_along (λ k. any_true (map (has_variable k) zs)) (λ k. has_variable k t) s n
+    (λ k. ap (λ us. any_true (map (has_variable k) us)) z ∙ sym (ap (has_variable k) e ∙ in_application k f args)) known
 
 take_all : (xs : List Term) (i : ℕ) → length xs ≤ i → take i xs ≡ xs
 take_all [] zero l = refl
@@ -123,8 +123,8 @@ take_all [] (suc i) l = refl
 take_all (x ∷ xs) zero l = absurd (omega arith)
 take_all (x ∷ xs) (suc i) l = ap (λ ys. x ∷ ys) (take_all xs i (omega arith))
 
-pub marked_all : (xs : List Term) (i : ℕ) (s n : List Bool) → length xs ≤ i → Marked (λ k. any_true (map (in_term k) (take i xs))) s n → Marked (λ k. any_true (map (in_term k) xs)) s n
-marked_all xs i s n l known = subst (λ ys. Marked (λ k. any_true (map (in_term k) ys)) s n) (take_all xs i l) known
+pub marked_all : (xs : List Term) (i : ℕ) (s n : List Bool) → length xs ≤ i → Marked (λ k. any_true (map (has_variable k) (take i xs))) s n → Marked (λ k. any_true (map (has_variable k) xs)) s n
+marked_all xs i s n l known = subst (λ ys. Marked (λ k. any_true (map (has_variable k) ys)) s n) (take_all xs i l) known
 
 -- a formula with the variables of another
 pub marked_formula : (f g : Formula) (occurs : ℕ → Bool) (s n : List Bool) → f ≡ g → ((k : ℕ) → in_formula g k ≡ occurs k) → Marked occurs s n → Marked (in_formula f) s n

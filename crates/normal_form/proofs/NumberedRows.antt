@@ -34,7 +34,7 @@ has-still : (xs seen : List ℕ) (k : ℕ) → has_number seen k ≡ true → ha
 has-still [] seen k h = h
 has-still (x ∷ xs) seen k h = has-still xs (with_number seen x) k (has-more seen x k h)
 
-has-each : (xs seen : List ℕ) (k : ℕ) → has_number xs k ≡ true → has_number (with_numbers seen xs) k ≡ true
+pub has-each : (xs seen : List ℕ) (k : ℕ) → has_number xs k ≡ true → has_number (with_numbers seen xs) k ≡ true
 has-each [] seen k h = absurd (cc)
 has-each (x ∷ xs) seen k h = elim (test_cases (nat_eq x k)) [
   | inl p ↦
@@ -44,7 +44,7 @@ has-each (x ∷ xs) seen k h = elim (test_cases (nat_eq x k)) [
 ]
 
 -- at a number's place stands the number
-owner-place : (ns : List ℕ) (n : ℕ) → has_number ns n ≡ true → owner ns (place_of ns n) ≡ n
+pub owner-place : (ns : List ℕ) (n : ℕ) → has_number ns n ≡ true → owner ns (place_of ns n) ≡ n
 owner-place [] n h = absurd (cc)
 owner-place (m ∷ rest) n h = elim (test_cases (nat_eq m n)) [
   | inl p ↦

@@ -11,7 +11,7 @@ use Rattle.normal_form.proofs.SoundLists.{literal-renamed, rows-append, rows-pai
 use Rattle.normal_form.specs.ClauseLists.{Rows, clause_rows, pairs_of, raw, rows_of, taking}
 use Rattle.normal_form.specs.ClauseTruth.{ClausesSuffice, EachIsAll, RowsHold}
 use Rattle.normal_form.specs.Existentials.{existential_in}
-use Rattle.normal_form.specs.Occurrence.{Closed, any_true, in_form, in_term}
+use Rattle.normal_form.specs.Occurrence.{IsClosedForm, any_true, in_form, has_variable}
 use Rattle.normal_form.specs.Renaming.{owner, renamed_literal}
 use Rattle.normal_form.specs.Truth.{Interpretation, form_truth, literal_truth, with_value}
 use Rattle.normal_form.specs.declared.clause_list.ClauseRow.{ClauseRow}
@@ -66,7 +66,7 @@ in_bound bound k b h o = elim (test_cases (nat_lt k bound)) [
   | inr p ↦ let above : bound ≤ k = grind (arith, nat_tests) in let none : b ≡ false = h above in absurd (cc)
 ]
 
-literal_bound : (bound : ℕ) (l : Literal) → FreeBelow bound (nf.Lit l) → (k : ℕ) → any_true (map (in_term k) l.args) ≡ true → k < bound
+literal_bound : (bound : ℕ) (l : Literal) → FreeBelow bound (nf.Lit l) → (k : ℕ) → any_true (map (has_variable k) l.args) ≡ true → k < bound
 literal_bound bound l free k o = in_bound bound k (in_form (nf.Lit l) k) (free k) (in-Lit k l ∙ o)
 
 free-And-left : (bound : ℕ) (a b : Nf) → FreeBelow bound (nf.And a b) → FreeBelow bound a
@@ -305,7 +305,7 @@ module _ {D : Type 0} (i : Interpretation D) where
   suffices : EachIsAll i → (a : Nf) → Suffices a
   suffices each = form_induction Suffices suffices-True suffices-False suffices-Lit suffices-And suffices-Or (suffices-All each) suffices-Ex
 
-  pub clauses_suffice : EachIsAll i → (a : Nf) → existential_in a ≡ false → Closed a → RowsHold i (clause_rows a) → (values : ℕ → D) → form_truth i a values ≡ true
+  pub clauses_suffice : EachIsAll i → (a : Nf) → existential_in a ≡ false → IsClosedForm a → RowsHold i (clause_rows a) → (values : ℕ → D) → form_truth i a values ≡ true
   clauses_suffice each a without closed holds values =
       suffices each a without 0 [] values values (λ k h. closed k) (λ k h. absurd (omega arith)) (λ k h. absurd (omega arith))
       (λ v same. rows_hold i ((rows_of a).1 0 []) holds v)

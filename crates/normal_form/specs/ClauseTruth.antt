@@ -2,7 +2,7 @@
 use Rattle.std.specs.Prelude.{◌≡◌, ℕ, Bool, true, false, ◌||◌, List, [], ◌∷◌}
 use Rattle.dk_syntax.specs.declared.Literal.{Literal}
 use Rattle.normal_form.specs.Existentials.{existential_in}
-use Rattle.normal_form.specs.Occurrence.{Closed}
+use Rattle.normal_form.specs.Occurrence.{IsClosedForm}
 use Rattle.normal_form.specs.Truth.{Interpretation, form_truth, literal_truth}
 use Rattle.normal_form.specs.declared.clause_list.ClauseRow.{ClauseRow}
 use Rattle.normal_form.specs.declared.form.Nf.{Nf}
@@ -33,4 +33,4 @@ EachIsAll {D = D} i = (p : D → Bool) → ((d : D) → p d ≡ true) → i.all 
 -- where it is closed and without existentials
 abbrev pub ClausesSuffice : (D : Type 0) → Nf → List ClauseRow → Type 0
 ClausesSuffice D a rows =
-    existential_in a ≡ false → Closed a → (i : Interpretation D) → EachIsAll i → RowsHold i rows → (values : ℕ → D) → form_truth i a values ≡ true
+    existential_in a ≡ false → IsClosedForm a → (i : Interpretation D) → EachIsAll i → RowsHold i rows → (values : ℕ → D) → form_truth i a values ≡ true

@@ -3,10 +3,17 @@ pub mod ClauseTruth
 pub mod Drafts
 pub mod Existentials
 pub mod Faults
+pub mod FormFacts
+pub mod Forms
+pub mod Laws
+pub mod LiteralOrder
 pub mod Lowered
 pub mod Marks
 pub mod Matrices
 pub mod Normal
 pub mod Occurrence
 pub mod Renaming
+pub mod RowFacts
+pub mod Sorting
 pub mod Truth
+pub mod Works

@@ -32,8 +32,10 @@ fn joined(a: u64, b: u64) -> u64
 
 /// The nodes of the formula's normal forms.
 pub fn count_nodes(alloc: Global, f: &Formula) -> Result<Sizes, NoMemory>
-    ensures positive { IfOk result (λ sizes. sizes.positive ≡ capped (nodes_of (normal_of f.now true))) }
-    ensures negative { IfOk result (λ sizes. sizes.negative ≡ capped (nodes_of (normal_of f.now false))) }
+    ensures positive { IfOk result (λ sizes. sizes.positive
+        ≡ capped (nodes_of (normal_of f.now true))) }
+    ensures negative { IfOk result (λ sizes. sizes.negative
+        ≡ capped (nodes_of (normal_of f.now false))) }
 {
     let mut marks = Vec::new(alloc);
     count(f, &mut marks)
@@ -42,8 +44,10 @@ pub fn count_nodes(alloc: Global, f: &Formula) -> Result<Sizes, NoMemory>
 /// The same, and the variables of the quantifiers around that occur are marked.
 #[cycle(count)]
 fn count(f: &Formula, marks: &mut Vec<bool>) -> Result<Sizes, NoMemory>
-    ensures positive { IfOk result (λ sizes. sizes.positive ≡ capped (nodes_of (normal_of f.now true))) }
-    ensures negative { IfOk result (λ sizes. sizes.negative ≡ capped (nodes_of (normal_of f.now false))) }
+    ensures positive { IfOk result (λ sizes. sizes.positive
+        ≡ capped (nodes_of (normal_of f.now true))) }
+    ensures negative { IfOk result (λ sizes. sizes.negative
+        ≡ capped (nodes_of (normal_of f.now false))) }
     ensures marked { OnOk result (Marked (in_formula f.now) marks.old.items marks.new.items) }
 {
     match f {
@@ -107,9 +111,14 @@ fn count(f: &Formula, marks: &mut Vec<bool>) -> Result<Sizes, NoMemory>
 /// The nodes of a quantifier's normal forms, which are those of the body where the variable does not occur.
 #[cycle(count)]
 fn count_body(a: &Formula, marks: &mut Vec<bool>) -> Result<Sizes, NoMemory>
-    ensures positive { IfOk result (λ sizes. sizes.positive ≡ capped (if in_formula a.now 0 then 1 + nodes_of (normal_of a.now true) else nodes_of (normal_of a.now true))) }
-    ensures negative { IfOk result (λ sizes. sizes.negative ≡ capped (if in_formula a.now 0 then 1 + nodes_of (normal_of a.now false) else nodes_of (normal_of a.now false))) }
-    ensures marked { OnOk result (Marked (λ k. in_formula a.now (k + 1)) marks.old.items marks.new.items) }
+    ensures positive { IfOk result (λ sizes. sizes.positive
+        ≡ capped (if in_formula a.now 0 then 1 + nodes_of (normal_of a.now true) else nodes_of
+        (normal_of a.now true))) }
+    ensures negative { IfOk result (λ sizes. sizes.negative
+        ≡ capped (if in_formula a.now 0 then 1 + nodes_of (normal_of a.now false) else nodes_of
+        (normal_of a.now false))) }
+    ensures marked { OnOk result (Marked (λ k. in_formula a.now (k + 1)) marks.old.items
+        marks.new.items) }
 {
     marks.push(false)?;
     let body = count(a, marks)?;

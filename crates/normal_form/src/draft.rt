@@ -84,7 +84,8 @@ pub fn draft_of(alloc: Global, f: &Formula, marks: &mut Vec<bool>) -> Result<Box
 fn draft_body(alloc: Global, a: &Formula, marks: &mut Vec<bool>) -> Result<Body, NoMemory>
     ensures draft { IfOk result (λ body. Drafts a.now body.draft) }
     ensures occurs { IfOk result (λ body. body.occurs ≡ in_formula a.now 0) }
-    ensures marked { OnOk result (Marked (λ k. in_formula a.now (k + 1)) marks.old.items marks.new.items) }
+    ensures marked { OnOk result (Marked (λ k. in_formula a.now (k + 1)) marks.old.items
+        marks.new.items) }
 {
     marks.push(false)?;
     let draft = draft_of(alloc, a, marks)?;
@@ -116,7 +117,8 @@ fn implication(alloc: Global, a: Boxed<Draft>, b: Boxed<Draft>) -> Result<Boxed<
 }
 
 fn universal(alloc: Global, body: Body) -> Result<Boxed<Draft>, NoMemory>
-    ensures { IfOk result (λ draft. draft ≡ (if body.occurs then Draft.All body.draft else Draft.Vacuous body.draft)) }
+    ensures { IfOk result (λ draft. draft
+        ≡ (if body.occurs then Draft.All body.draft else Draft.Vacuous body.draft)) }
 {
     let Body { draft, occurs } = body;
     if occurs {
@@ -126,7 +128,8 @@ fn universal(alloc: Global, body: Body) -> Result<Boxed<Draft>, NoMemory>
 }
 
 fn existential(alloc: Global, body: Body) -> Result<Boxed<Draft>, NoMemory>
-    ensures { IfOk result (λ draft. draft ≡ (if body.occurs then Draft.Ex body.draft else Draft.Vacuous body.draft)) }
+    ensures { IfOk result (λ draft. draft
+        ≡ (if body.occurs then Draft.Ex body.draft else Draft.Vacuous body.draft)) }
 {
     let Body { draft, occurs } = body;
     if !occurs {

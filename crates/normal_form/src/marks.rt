@@ -3,7 +3,7 @@
 
 ghost use Rattle.std.specs.Prelude.{◌≡◌, ◌∷◌, ◌++◌, ◌<◌, [], length, map, nat_eq};
 ghost use Rattle.normal_form.specs.Marks.{Marked};
-ghost use Rattle.normal_form.specs.Occurrence.{any_true, in_term};
+ghost use Rattle.normal_form.specs.Occurrence.{any_true, has_variable};
 
 use dk_syntax::Term;
 
@@ -19,7 +19,7 @@ fn mark(marks: &mut Vec<bool>, n: u32)
 
 #[cycle(mark_term)]
 fn mark_term(marks: &mut Vec<bool>, term: &Term)
-    ensures { Marked (λ k. in_term k term.now) marks.old.items marks.new.items }
+    ensures { Marked (λ k. has_variable k term.now) marks.old.items marks.new.items }
 {
     match term {
         Term::Var(n) => mark(marks, *n),
@@ -31,7 +31,8 @@ fn mark_term(marks: &mut Vec<bool>, term: &Term)
 /// Marks the variables that occur in the terms.
 #[cycle(mark_term)]
 pub fn mark_terms(marks: &mut Vec<bool>, terms: &[Term])
-    ensures { Marked (λ k. any_true (map (in_term k) terms.now)) marks.old.items marks.new.items }
+    ensures { Marked (λ k. any_true (map (has_variable k) terms.now)) marks.old.items
+        marks.new.items }
 {
     for term in terms {
         mark_term(marks, term);

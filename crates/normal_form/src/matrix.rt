@@ -30,7 +30,8 @@ pub fn matrix_of(
     next: &mut u32,
     around: &mut Vec<u32>,
 ) -> Result<Matrix, NoMemory>
-    ensures rows { IfOk result (λ matrix. rows_in matrix ≡ (rows_of nf.now).1 next.old (reverse around.old.items)) }
+    ensures rows { IfOk result (λ matrix. rows_in matrix
+        ≡ (rows_of nf.now).1 next.old (reverse around.old.items)) }
     ensures next { OnOk result (next.new ≡ next.old + (rows_of nf.now).0) }
     ensures around { OnOk result (around.new.items ≡ around.old.items) }
 {
@@ -66,7 +67,8 @@ fn matrix_of_body(
     next: &mut u32,
     around: &mut Vec<u32>,
 ) -> Result<Matrix, NoMemory>
-    ensures rows { IfOk result (λ matrix. rows_in matrix ≡ (rows_of body.now).1 (next.old + 1) (next.old ∷ reverse around.old.items)) }
+    ensures rows { IfOk result (λ matrix. rows_in matrix
+        ≡ (rows_of body.now).1 (next.old + 1) (next.old ∷ reverse around.old.items)) }
     ensures next { OnOk result (next.new ≡ next.old + 1 + (rows_of body.now).0) }
     ensures around { OnOk result (around.new.items ≡ around.old.items) }
 {
@@ -91,7 +93,8 @@ fn after(next: u32, nf: &Nf) -> Result<u32, NoMemory>
 }
 
 fn conjunction(alloc: Global, a: Matrix, b: Matrix) -> Result<Matrix, NoMemory>
-    ensures { IfOk result (λ matrix. rows_in matrix ≡ map (taking false) (rows_in a) ++ map (taking true) (rows_in b)) }
+    ensures { IfOk result (λ matrix. rows_in matrix ≡ map (taking false) (rows_in a)
+        ++ map (taking true) (rows_in b)) }
 {
     if is_true(&a) && is_true(&b) {
         return Ok(Matrix::True);

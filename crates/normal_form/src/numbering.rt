@@ -55,7 +55,8 @@ fn add_term(seen: &mut IndexSet<u32>, term: &Term) -> Result<(), NoMemory>
 
 #[cycle(add_term)]
 fn add_terms(seen: &mut IndexSet<u32>, terms: &[Term]) -> Result<(), NoMemory>
-    ensures { OnOk result (seen.new.keys ≡ with_numbers seen.old.keys (joined (map variables_of terms.now))) }
+    ensures { OnOk result (seen.new.keys ≡ with_numbers seen.old.keys
+        (joined (map variables_of terms.now))) }
 {
     for term in terms {
         add_term(seen, term)?;

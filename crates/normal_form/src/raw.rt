@@ -73,7 +73,8 @@ fn add_rows(
     prefix: Raw,
     rows: &mut Vec<Raw>,
 ) -> Result<(), NoMemory>
-    ensures { OnOk result (rows.new.items ≡ rows.old.items ++ map (beside prefix) (rows_in matrix.now)) }
+    ensures { OnOk result (rows.new.items ≡ rows.old.items
+        ++ map (beside prefix) (rows_in matrix.now)) }
 {
     match matrix {
         Matrix::True => Ok(()),
@@ -111,7 +112,8 @@ fn add_to_each(
     prefixes: Vec<Raw>,
     rows: &mut Vec<Raw>,
 ) -> Result<(), NoMemory>
-    ensures { OnOk result (rows.new.items ≡ rows.old.items ++ pairs_of prefixes.items (rows_in matrix.now)) }
+    ensures { OnOk result (rows.new.items ≡ rows.old.items
+        ++ pairs_of prefixes.items (rows_in matrix.now)) }
 {
     for prefix in prefixes {
         add_rows(alloc, matrix, prefix, rows)?;

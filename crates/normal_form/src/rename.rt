@@ -125,7 +125,8 @@ pub fn rename_literals(
     literals: &[Literal],
     universals: &IndexSet<u32>,
 ) -> Result<Seq<Literal>, NoMemory>
-    ensures { IfOk result (λ all. all ≡ map (renamed_literal (place_of universals.now.keys)) literals.now) }
+    ensures { IfOk result (λ all. all ≡ map (renamed_literal (place_of universals.now.keys))
+        literals.now) }
 {
     let mut all = Seq::from_vec(Vec::new(alloc));
     for literal in literals {

@@ -70,7 +70,8 @@ fn build(
     around: &mut Vec<u32>,
     dropped: u32,
 ) -> Result<Boxed<Nf>, NoMemory>
-    ensures form { IfOk result (λ nf. nf ≡ settled draft.now sign (reverse around.old.items) dropped) }
+    ensures form { IfOk result (λ nf. nf ≡ settled draft.now sign (reverse around.old.items)
+        dropped) }
     ensures around { OnOk result (around.new.items ≡ around.old.items) }
 {
     match draft {
@@ -121,7 +122,8 @@ fn build_body(
     around: &mut Vec<u32>,
     dropped: u32,
 ) -> Result<Boxed<Nf>, NoMemory>
-    ensures form { IfOk result (λ nf. nf ≡ settled body.now sign (dropped ∷ reverse around.old.items) dropped) }
+    ensures form { IfOk result (λ nf. nf ≡ settled body.now sign
+        (dropped ∷ reverse around.old.items) dropped) }
     ensures around { OnOk result (around.new.items ≡ around.old.items) }
 {
     around.push(dropped)?;
@@ -146,7 +148,8 @@ fn literal(
     args: &Seq<Term>,
     naming: Naming<'_>,
 ) -> Result<Boxed<Nf>, NoMemory>
-    ensures { IfOk result (λ form. form ≡ Nf.Lit (renamed_literal (new_number naming.entry) (literal_of sign symbol.now args.now))) }
+    ensures { IfOk result (λ form. form ≡ Nf.Lit
+        (renamed_literal (new_number naming.entry) (literal_of sign symbol.now args.now))) }
 {
     let literal = Literal {
         positive: sign,

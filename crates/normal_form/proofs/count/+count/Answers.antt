@@ -6,13 +6,13 @@ use Rattle.normal_form.proofs.MarkLaws.{last_marked, marked_formula, marked_pair
 use Rattle.normal_form.proofs.FormulaEquations.{occurs-And, occurs-Atom, occurs-Iff, occurs-Imp, occurs-Or}
 use Rattle.normal_form.specs.Marks.{Marked}
 use Rattle.normal_form.specs.Normal.{nodes_of, normal_of}
-use Rattle.normal_form.specs.Occurrence.{any_true, in_formula, in_term}
+use Rattle.normal_form.specs.Occurrence.{any_true, in_formula, has_variable}
 use Rattle.normal_form.proofs.count.+count.Goals as goal
 
 pub count-returns-in-Atom-clause-marked : goal.count-returns-in-Atom-clause-marked
 count-returns-in-Atom-clause-marked t c =
-    marked_formula c.args.f.now (formula.Atom c.in-Atom.field-0 c.in-Atom.args) (λ k. any_true (map (in_term k) c.as_slice.result.now)) c.args.marks.now.items c.mark_terms.new.marks.items
-    c.in-Atom.is (λ k. occurs-Atom k c.in-Atom.field-0 c.in-Atom.args ∙ ap (λ us. any_true (map (in_term k) us)) (sym c.as_slice.ensures)) c.mark_terms.ensures
+    marked_formula c.args.f.now (formula.Atom c.in-Atom.field-0 c.in-Atom.args) (λ k. any_true (map (has_variable k) c.as_slice.result.now)) c.args.marks.now.items c.mark_terms.new.marks.items
+    c.in-Atom.is (λ k. occurs-Atom k c.in-Atom.field-0 c.in-Atom.args ∙ ap (λ us. any_true (map (has_variable k) us)) (sym c.as_slice.ensures)) c.mark_terms.ensures
 
 pub count-returns-in_ok-b-in-And-clause-marked : goal.count-returns-in_ok-b-in-And-clause-marked
 count-returns-in_ok-b-in-And-clause-marked t c =

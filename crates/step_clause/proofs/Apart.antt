@@ -8,8 +8,10 @@ use Rattle.dk_syntax.specs.declared.Literal.{Literal}
 use Rattle.dk_syntax.specs.declared.SymKey.{SymKey}
 use Rattle.dk_syntax.specs.declared.Term.{Term}
 use Rattle.dk_syntax.specs.declared.Term.TheVariants.{Var}
-use Rattle.unifier.specs.Substitution.{substituted, has_variable, any_true, Fixes, EachBelow}
-use Rattle.unifier.proofs.Terms.{substituted-Var, agree, after, same, or_left, or_right}
+use Rattle.unifier.specs.Substitution.{Fixes}
+use Rattle.dk_syntax.specs.Terms.{substituted, has_variable, any_true, EachBelow}
+use Rattle.dk_syntax.proofs.SubstitutionLaws.{substituted-Var, agree, after, same}
+use Rattle.std.proofs.lemmas.Bool.{or_left, or_right}
 use Rattle.step_clause.specs.declared.slots.Pivots.{Pivots}
 use Rattle.step_clause.specs.declared.slots.Side.{Side}
 use Rattle.step_clause.specs.declared.slots.Side.TheVariants.{Kept, Positive, Negative}

@@ -46,15 +46,15 @@ abbrev pub AllTo : {X : Type 0} → (X → Type 0) → List X → ℕ → Type 0
 AllTo P items n = (k : ℕ) (d : _) → k < n → P (get_or items k d)
 
 module _ (X : Type 0) (P : X → Type 0) (items : List X) where
-  any_default : (xs : List X) (i : ℕ) (d e : X) → i < length xs → get_or xs i d ≡ get_or xs i e
-  any_default [] i d e l = absurd (omega arith)
-  any_default (x ∷ xs) zero d e l = refl
-  any_default (x ∷ xs) (suc i) d e l = any_default xs i d e (omega arith)
+  get_or_default : (xs : List X) (i : ℕ) (d e : X) → i < length xs → get_or xs i d ≡ get_or xs i e
+  get_or_default [] i d e l = absurd (omega arith)
+  get_or_default (x ∷ xs) zero d e l = refl
+  get_or_default (x ∷ xs) (suc i) d e l = get_or_default xs i d e (omega arith)
 
   pub all_more : (i : ℕ) (x : X) → i < length items → x ≡ get_or items i x → AllTo P items i → P x → AllTo P items (i + 1)
   all_more i x l is all here k d m = elim (or_equal k i m) [
     | inl e ↦ all k d e
-    | inr e ↦ subst P (is ∙ any_default items i x d l ∙ ap (λ z. get_or items z d) (sym e)) here
+    | inr e ↦ subst P (is ∙ get_or_default items i x d l ∙ ap (λ z. get_or items z d) (sym e)) here
   ]
 
   pub item_at : (i : ℕ) (x : X) → All P items → i < length items → x ≡ get_or items i x → P x

@@ -5,9 +5,11 @@ use Rattle.dk_syntax.specs.declared.Literal.{Literal}
 use Rattle.dk_syntax.specs.declared.Term.{Term}
 use Rattle.dk_syntax.specs.declared.Term.TheVariants.{Var}
 use Rattle.unifier.specs.Outcomes.{Sound}
-use Rattle.unifier.specs.Substitution.{substituted, value, any_true, has_variable, EachBelow, SameInstances, Settled}
-use Rattle.unifier.proofs.BoundLaws.{is_variable, unbound_refined}
-use Rattle.unifier.proofs.Terms.{comes, or_cases, or_left, or_right}
+use Rattle.unifier.specs.Substitution.{value, SameInstances, Settled}
+use Rattle.dk_syntax.specs.Terms.{substituted, any_true, has_variable, EachBelow}
+use Rattle.unifier.proofs.BoundLaws.{unbound_refined}
+use Rattle.dk_syntax.proofs.SubstitutionLaws.{comes, is_variable}
+use Rattle.std.proofs.lemmas.Bool.{or_cases, or_left, or_right}
 use Rattle.unifier.proofs.ResolutionLaws.{refines_itself, value_fixes}
 use Rattle.step_clause.specs.declared.justification.Justification.TheVariants.{Subsume, Resolve}
 use Rattle.step_clause.specs.declared.slots.Side.{Side}

@@ -6,7 +6,8 @@ use Rattle.std.proofs.lemmas.Option.{slice_get_within}
 use Rattle.dk_syntax.specs.declared.Literal.{Literal}
 use Rattle.dk_syntax.specs.declared.SymKey.{SymKey}
 use Rattle.dk_syntax.specs.declared.Term.{Term}
-use Rattle.unifier.specs.Substitution.{substituted, Fixes}
+use Rattle.unifier.specs.Substitution.{Fixes}
+use Rattle.dk_syntax.specs.Terms.{substituted}
 use Rattle.step_clause.specs.declared.slots.Pivots.{Pivots}
 use Rattle.step_clause.specs.declared.slots.Slot.{Slot}
 use Rattle.step_clause.specs.Candidates.{instance, ArePicked, Resolves, affirmed, denied}
@@ -171,15 +172,15 @@ pivot_kept : (r : ℕ → Term) (first : Option Literal) (d : Literal) (p : SymK
 pivot_kept r None d p xs i e g = (e, g)
 pivot_kept r (Some c) d p xs i e g = i
 
-test_cases : (b : Bool) → (b ≡ true) ⊎ (b ≡ false)
-test_cases true = inl refl
-test_cases false = inr refl
+cases_Bool : (b : Bool) → (b ≡ true) ⊎ (b ≡ false)
+cases_Bool true = inl refl
+cases_Bool false = inr refl
 
 within : (ds : List Literal) (p : ℕ) (d : Literal) → slice_get ds p ≡ Some d → p ≡ length ds → ⊥
 within ds p d at e = let l = slice_get_within ds p d at in absurd (omega arith)
 
 pub together : (sign : Bool) (n k : ℕ) (r : ℕ → Term) → Fixes n r → (ds : List Literal) → LiteralsBelow n ds → (rest : List Slot) (others : List ℕ) (p : SymKey) (xs : List Term) (cs : List Literal) (picks : List ℕ) (w : Pivots) → ((next : Pivots) → IsPivotOf r next.first p xs → wants sign next ≡ false → wants (not sign) next ≡ wants (not sign) w → Fits r ds next rest others) → IsPivotOf r w.first p xs → ArePicked (part k r) ds (signed sign p xs) cs picks → (wants sign w ≡ true → Contains picks (length ds)) → Fits r ds w (slots_of k sign cs ++ rest) (picks ++ others)
-together sign n k r f ds b rest others p xs [] [] w go i h x = elim (test_cases (wants sign w)) [
+together sign n k r f ds b rest others p xs [] [] w go i h x = elim (cases_Bool (wants sign w)) [
   | inl y ↦ absurd (contains_none (length ds) (x y))
   | inr y ↦ go w i y refl
 ]

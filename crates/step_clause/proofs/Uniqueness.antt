@@ -10,8 +10,9 @@ use Rattle.dk_syntax.specs.declared.Literal.{Literal}
 use Rattle.dk_syntax.specs.declared.Term.{Term}
 use Rattle.dk_syntax.specs.declared.Term.TheVariants.{Any, App, Var}
 use Rattle.normal_form.specs.declared.ClauseList.{ClauseList}
-use Rattle.unifier.specs.Substitution.{substituted, Fixes}
-use Rattle.unifier.proofs.Terms.{substituted-Var, substituted-App, substituted-Any}
+use Rattle.unifier.specs.Substitution.{Fixes}
+use Rattle.dk_syntax.specs.Terms.{substituted}
+use Rattle.dk_syntax.proofs.SubstitutionLaws.{substituted-Var, substituted-App, substituted-Any}
 use Rattle.step_clause.specs.declared.justification.Justification.{Justification}
 use Rattle.step_clause.specs.declared.justification.Justification.TheVariants.{Subsume, Resolve}
 use Rattle.step_clause.specs.Candidates.{Candidate, subsumption, resolution, Works, Before, IsListBefore, IsClause, Subsumes, Resolves}
@@ -27,9 +28,9 @@ low_closed n k e = ap (λ b. if b then Var k else Any) e
 high_closed : (n k : ℕ) → nat_lt k n ≡ false → closed n k ≡ Any
 high_closed n k e = ap (λ b. if b then Var k else Any) e
 
-test_cases : (b : Bool) → (b ≡ true) ⊎ (b ≡ false)
-test_cases true = inl refl
-test_cases false = inr refl
+cases_Bool : (b : Bool) → (b ≡ true) ⊎ (b ≡ false)
+cases_Bool true = inl refl
+cases_Bool false = inr refl
 
 -- what becomes a variable that is not the target's is one
 abbrev pub Becomes : ℕ → (ℕ → Term) → ℕ → Term → Type 0
@@ -37,7 +38,7 @@ Becomes n r k b = substituted r b ≡ Var k → nat_lt k n ≡ false → substit
 
 becomes : (n : ℕ) (r : ℕ → Term) → Fixes n r → (k : ℕ) (b : Term) → Becomes n r k b
 becomes n r f k = term_induction (Becomes n r k)
-    (λ m e high. elim (test_cases (nat_lt m n)) [
+    (λ m e high. elim (cases_Bool (nat_lt m n)) [
       | inl low ↦ absurd (
           let x : m ≡ k = Var-injective m k (sym (f m (ltb-true m n low)) ∙ sym (substituted-Var r m) ∙ e) in
           let y = ap (λ z. nat_lt z n) x in cc)
@@ -58,7 +59,7 @@ alike_all n r s (x ∷ xs) known e =
 -- a term that comes back from a further instance of it is closed as that instance is
 alike : (n : ℕ) (r s : ℕ → Term) → Fixes n r → Fixes n s → (a : Term) → Alike n r s a
 alike n r s f g = term_induction (Alike n r s)
-    (λ k e. elim (test_cases (nat_lt k n)) [
+    (λ k e. elim (cases_Bool (nat_lt k n)) [
       | inl low ↦ ap (substituted (closed n)) (sym (substituted-Var r k ∙ f k (ltb-true k n low)))
       | inr high ↦ substituted-Var (closed n) k ∙ high_closed n k high ∙ sym (becomes n s g k (substituted r (Var k)) e high)
     ])

@@ -6,7 +6,7 @@ use Rattle.dk_syntax.specs.declared.SymKey.{SymKey}
 use Rattle.dk_syntax.specs.declared.Term.{Term}
 use Rattle.normal_form.specs.declared.ClauseList.{ClauseList}
 use Rattle.normal_form.specs.declared.ClauseRow.{ClauseRow}
-use Rattle.unifier.specs.Substitution.{substituted}
+use Rattle.dk_syntax.specs.Terms.{substituted}
 
 -- A literal with its variables replaced.
 abbrev pub instance : (ℕ → Term) → Literal → Literal

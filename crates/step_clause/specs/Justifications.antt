@@ -6,7 +6,8 @@ use Rattle.dk_syntax.specs.declared.Literal.{Literal}
 use Rattle.dk_syntax.specs.declared.Term.{Term}
 use Rattle.dk_syntax.specs.declared.Term.TheVariants.{Any, Var}
 use Rattle.normal_form.specs.declared.ClauseList.{ClauseList}
-use Rattle.unifier.specs.Substitution.{substituted, Fixes, EachBelow}
+use Rattle.unifier.specs.Substitution.{Fixes}
+use Rattle.dk_syntax.specs.Terms.{substituted, EachBelow}
 use Rattle.step_clause.specs.declared.justification.Justification.{Justification}
 use Rattle.step_clause.specs.declared.justification.Justification.TheVariants.{Subsume, Resolve}
 use Rattle.step_clause.specs.Candidates.{Candidate, subsumption, resolution, IsClause, Subsumes, Resolves, NoneWorks, IsLeast}

@@ -5,7 +5,8 @@ use Rattle.std.specs.List.{All}
 use Rattle.dk_syntax.specs.declared.Literal.{Literal}
 use Rattle.dk_syntax.specs.declared.Term.{Term}
 use Rattle.unifier.specs.Outcomes.{Sound, Extended}
-use Rattle.unifier.specs.Substitution.{substituted, Fixes, Refines, EachBelow}
+use Rattle.unifier.specs.Substitution.{Fixes, Refines}
+use Rattle.dk_syntax.specs.Terms.{substituted, EachBelow}
 use Rattle.step_clause.specs.Candidates.{IsListBefore}
 use Rattle.step_clause.specs.declared.search.Found.{Found}
 use Rattle.step_clause.specs.declared.slots.Pivots.{Pivots}

@@ -29,6 +29,3 @@ mod values;
 pub use justification::Justification;
 pub use numbering::{are_numbered, is_numbered};
 pub use parents::justify;
-
-#[cfg(test)]
-mod tests;

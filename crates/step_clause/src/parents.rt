@@ -20,7 +20,8 @@ fn subsume_by_list(
 ) -> Result<Option<Justification>, NoMemory>
     requires target { IsNumbered target.now }
     requires list { IsNumberedList list.now }
-    ensures { IfOk result (λ answer. IsAnswer (ListSubsumesBy target.now list.now) (IsListSubsumption target.now parent list.now) answer) }
+    ensures { IfOk result (λ answer. IsAnswer (ListSubsumesBy target.now list.now)
+        (IsListSubsumption target.now parent list.now) answer) }
 {
     let rows = list.rows.as_slice();
     for k in 0..rows.len() {
@@ -41,7 +42,9 @@ fn least_subsumption(
 ) -> Result<Option<Justification>, NoMemory>
     requires target { IsNumbered target.now }
     requires parents { AreNumbered parents.now }
-    ensures { IfOk result (λ answer. IsAnswer (Among (ListSubsumesBy target.now) parents.now) (λ it. AmongAt (λ parent list. IsListSubsumption target.now parent list it) parents.now) answer) }
+    ensures { IfOk result (λ answer. IsAnswer (Among (ListSubsumesBy target.now) parents.now)
+        (λ it. AmongAt (λ parent list. IsListSubsumption target.now parent list it) parents.now)
+        answer) }
 {
     for k in 0..parents.len() {
         let parent = number_of(k)?;
@@ -65,7 +68,8 @@ fn resolve_with_list(
     requires target { IsNumbered target.now }
     requires first { IsNumbered first.now }
     requires list { IsNumberedList list.now }
-    ensures { IfOk result (λ answer. IsAnswer (ListResolvesBy target.now first.now list.now) (IsListResolution target.now at first.now parent list.now) answer) }
+    ensures { IfOk result (λ answer. IsAnswer (ListResolvesBy target.now first.now list.now)
+        (IsListResolution target.now at first.now parent list.now) answer) }
 {
     let rows = list.rows.as_slice();
     for k in 0..rows.len() {
@@ -96,7 +100,8 @@ fn resolve_with_parents(
     requires target { IsNumbered target.now }
     requires parents { AreNumbered parents.now }
     requires first { IsNumbered first.now }
-    ensures { IfOk result (λ answer. IsAnswer (ClauseResolvesBy target.now parents.now first.now) (IsClauseResolution target.now parents.now at first.now) answer) }
+    ensures { IfOk result (λ answer. IsAnswer (ClauseResolvesBy target.now parents.now first.now)
+        (IsClauseResolution target.now parents.now at first.now) answer) }
 {
     for k in 0..parents.len() {
         let parent = number_of(k)?;
@@ -119,7 +124,8 @@ fn resolve_list(
     requires target { IsNumbered target.now }
     requires parents { AreNumbered parents.now }
     requires list { IsNumberedList list.now }
-    ensures { IfOk result (λ answer. IsAnswer (ParentResolvesBy target.now parents.now list.now) (IsParentResolution target.now parents.now parent list.now) answer) }
+    ensures { IfOk result (λ answer. IsAnswer (ParentResolvesBy target.now parents.now list.now)
+        (IsParentResolution target.now parents.now parent list.now) answer) }
 {
     let rows = list.rows.as_slice();
     for k in 0..rows.len() {
@@ -141,7 +147,10 @@ fn least_resolution(
 ) -> Result<Option<Justification>, NoMemory>
     requires target { IsNumbered target.now }
     requires parents { AreNumbered parents.now }
-    ensures { IfOk result (λ answer. IsAnswer (Among (ParentResolvesBy target.now parents.now) parents.now) (λ it. AmongAt (λ parent list. IsParentResolution target.now parents.now parent list it) parents.now) answer) }
+    ensures { IfOk result (λ answer. IsAnswer
+        (Among (ParentResolvesBy target.now parents.now) parents.now)
+        (λ it. AmongAt (λ parent list. IsParentResolution target.now parents.now parent list it)
+        parents.now) answer) }
 {
     for k in 0..parents.len() {
         let parent = number_of(k)?;
@@ -162,7 +171,8 @@ pub fn justify(
     requires target { IsNumbered target.now }
     requires parents { AreNumbered parents.now }
     ensures answer { IfOk result (λ answer. IsJustification target.now parents.now answer) }
-    ensures alone { IfOk result (λ answer. (other : Option Justification) → IsJustification target.now parents.now other → other ≡ answer) }
+    ensures alone { IfOk result (λ answer. (other : Option Justification)
+        → IsJustification target.now parents.now other → other ≡ answer) }
 {
     let found = least_subsumption(alloc, target, parents.as_slice())?;
     match found {

@@ -23,7 +23,11 @@ fn resolving_picks(
     requires target { IsNumbered target.now }
     requires first { IsNumbered first.now }
     requires second { IsNumbered second.now }
-    ensures { IfOk result (λ answer. IsFound target.now.vars (λ r qs. Fits r target.now.lits both_wanted (map (slot_of target.now.vars Side.Positive) first.now.lits ++ map (slot_of (target.now.vars + first.now.vars) Side.Negative) second.now.lits) qs) (replicate (target.now.vars + first.now.vars + second.now.vars) None) answer) }
+    ensures { IfOk result (λ answer. IsFound target.now.vars
+        (λ r qs. Fits r target.now.lits both_wanted
+        (map (slot_of target.now.vars Side.Positive) first.now.lits
+        ++ map (slot_of (target.now.vars + first.now.vars) Side.Negative) second.now.lits) qs)
+        (replicate (target.now.vars + first.now.vars + second.now.vars) None) answer) }
 {
     let from = target.vars.checked_add(first.vars).ok_or(NoMemory)?;
     let count = from.checked_add(second.vars).ok_or(NoMemory)?;
@@ -62,7 +66,8 @@ fn copied(alloc: Global, numbers: &[u32]) -> Result<Seq<u32>, NoMemory>
 
 /// The first numbers, that many, and the others.
 fn split(alloc: Global, numbers: &[u32], at: usize) -> Result<(Seq<u32>, Seq<u32>), NoMemory>
-    ensures { IfOk result (λ parts. (parts.0 ≡ take at numbers.now) × (parts.1 ≡ drop at numbers.now)) }
+    ensures { IfOk result (λ parts. (parts.0 ≡ take at numbers.now)
+        × (parts.1 ≡ drop at numbers.now)) }
 {
     if at > numbers.len() {
         let all = copied(alloc, numbers)?;
@@ -85,7 +90,9 @@ pub fn resolve(
     requires target { IsNumbered target.now }
     requires first { IsNumbered first.now }
     requires second { IsNumbered second.now }
-    ensures { IfOk result (λ answer. IsAnswer (ResolvesBy target.now first.now second.now) (IsResolution target.now at.parent at.number other.parent other.number first.now second.now) answer) }
+    ensures { IfOk result (λ answer. IsAnswer (ResolvesBy target.now first.now second.now)
+        (IsResolution target.now at.parent at.number other.parent other.number first.now second.now)
+        answer) }
 {
     let found = resolving_picks(alloc, target, first, second)?;
     match found {

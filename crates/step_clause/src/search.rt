@@ -1,7 +1,7 @@
 //! The search for the least picks, literal by literal, with the bindings of the literals before.
 ghost use Rattle.std.specs.Prelude.{◌≡◌, ◌∷◌, length, IfOk, IsTrue, ◌↔◌};
 ghost use Rattle.unifier.specs.Outcomes.{Sound};
-ghost use Rattle.unifier.specs.Substitution.{EachBelow};
+ghost use Rattle.dk_syntax.specs.Terms.{EachBelow};
 ghost use Rattle.step_clause.specs.Justifications.{LiteralsBelow};
 ghost use Rattle.step_clause.specs.Search.{Fits, FitsAfter, FitsAsPivot, IsEnd, IsFound, IsFoundAtLiteral, PivotsBelow, SameAtom, SlotsBelow};
 
@@ -66,7 +66,9 @@ fn search_atom(
     requires below_c { EachBelow (length s.now.terms) c.now.args }
     requires below_d { EachBelow (length s.now.terms) d.now.args }
     requires below_rest { SlotsBelow (length s.now.terms) rest.now }
-    ensures { IfOk result (λ answer. IsFound target.now.vars (λ r qs. SameAtom r c.now d.now × Fits r target.now.lits pivots.now rest.now qs) s.now.terms answer) }
+    ensures { IfOk result (λ answer. IsFound target.now.vars
+        (λ r qs. SameAtom r c.now d.now × Fits r target.now.lits pivots.now rest.now qs) s.now.terms
+        answer) }
 {
     if !c.pred.same(&d.pred) {
         return Ok(None);
@@ -103,7 +105,8 @@ fn search_literal(
     requires below_c { EachBelow (length s.now.terms) c.now.args }
     requires below_d { EachBelow (length s.now.terms) d.now.args }
     requires below_rest { SlotsBelow (length s.now.terms) rest.now }
-    ensures { IfOk result (λ answer. IsFound target.now.vars (FitsAfter target.now.lits pivots.now c.now d.now rest.now) s.now.terms answer) }
+    ensures { IfOk result (λ answer. IsFound target.now.vars
+        (FitsAfter target.now.lits pivots.now c.now d.now rest.now) s.now.terms answer) }
 {
     if c.positive != d.positive {
         return Ok(None);
@@ -127,7 +130,8 @@ fn search_literals(
     requires below_pivots { PivotsBelow (length s.now.terms) pivots.now.first }
     requires below_slot { EachBelow (length s.now.terms) slot.now.literal.args }
     requires below_rest { SlotsBelow (length s.now.terms) rest.now }
-    ensures { IfOk result (λ answer. IsFoundAtLiteral target.now.vars target.now.lits pivots.now slot.now rest.now s.now.terms answer) }
+    ensures { IfOk result (λ answer. IsFoundAtLiteral target.now.vars target.now.lits pivots.now
+        slot.now rest.now s.now.terms answer) }
 {
     let ds = target.lits.as_slice();
     for p in 0..ds.len() {
@@ -155,7 +159,8 @@ fn search_pivot(
     requires below_pivots { PivotsBelow (length s.now.terms) pivots.now.first }
     requires below_slot { EachBelow (length s.now.terms) slot.now.literal.args }
     requires below_rest { SlotsBelow (length s.now.terms) rest.now }
-    ensures { IfOk result (λ answer. IsFound target.now.vars (FitsAsPivot target.now.lits pivots.now slot.now rest.now) s.now.terms answer) }
+    ensures { IfOk result (λ answer. IsFound target.now.vars
+        (FitsAsPivot target.now.lits pivots.now slot.now rest.now) s.now.terms answer) }
 {
     if !slot.may_cut {
         return Ok(None);
@@ -189,7 +194,8 @@ fn search(
     requires below_target { LiteralsBelow (length s.now.terms) target.now.lits }
     requires below_pivots { PivotsBelow (length s.now.terms) pivots.now.first }
     requires below_slots { SlotsBelow (length s.now.terms) slots.now }
-    ensures { IfOk result (λ answer. IsFound target.now.vars (λ r qs. Fits r target.now.lits pivots.now slots.now qs) s.now.terms answer) }
+    ensures { IfOk result (λ answer. IsFound target.now.vars
+        (λ r qs. Fits r target.now.lits pivots.now slots.now qs) s.now.terms answer) }
 {
     if !pivots_may_come(pivots, slots) {
         return Ok(None);
@@ -230,7 +236,8 @@ pub fn least_picks(
     requires below_target { LiteralsBelow (length s.now.terms) target.now.lits }
     requires below_pivots { PivotsBelow (length s.now.terms) pivots.now.first }
     requires below_slots { SlotsBelow (length s.now.terms) slots.now }
-    ensures { IfOk result (λ answer. IsFound target.now.vars (λ r qs. Fits r target.now.lits pivots.now slots.now qs) s.now.terms answer) }
+    ensures { IfOk result (λ answer. IsFound target.now.vars
+        (λ r qs. Fits r target.now.lits pivots.now slots.now qs) s.now.terms answer) }
 {
     let allowed = symbols_allow(alloc, target, pivots, slots)?;
     if !allowed {

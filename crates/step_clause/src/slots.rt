@@ -2,7 +2,7 @@
 #![tactic(auto, using(crate::proofs::Steps::term_steps))]
 
 ghost use Rattle.std.specs.Prelude.{◌≡◌, ◌+◌, ◌++◌, map, IfOk, OnOk};
-ghost use Rattle.unifier.specs.Substitution.{substituted};
+ghost use Rattle.dk_syntax.specs.Terms.{substituted};
 ghost use Rattle.step_clause.specs.Search.{after_pivot};
 ghost use Rattle.step_clause.specs.Slots.{may_cut, raising, slot_of};
 

@@ -21,7 +21,10 @@ fn subsuming_picks(
 ) -> Result<Option<Found>, NoMemory>
     requires target { IsNumbered target.now }
     requires clause { IsNumbered clause.now }
-    ensures { IfOk result (λ answer. IsFound target.now.vars (λ r qs. Fits r target.now.lits none_wanted (map (slot_of target.now.vars Side.Kept) clause.now.lits) qs) (replicate (target.now.vars + clause.now.vars) None) answer) }
+    ensures { IfOk result (λ answer. IsFound target.now.vars
+        (λ r qs. Fits r target.now.lits none_wanted
+        (map (slot_of target.now.vars Side.Kept) clause.now.lits) qs)
+        (replicate (target.now.vars + clause.now.vars) None) answer) }
 {
     let count = target.vars.checked_add(clause.vars).ok_or(NoMemory)?;
     let mut slots = Seq::from_vec(Vec::new(alloc));
@@ -51,7 +54,8 @@ pub fn subsume(
 ) -> Result<Option<Justification>, NoMemory>
     requires target { IsNumbered target.now }
     requires clause { IsNumbered clause.now }
-    ensures { IfOk result (λ answer. IsAnswer (SubsumesBy target.now clause.now) (IsSubsumption target.now at.parent at.number clause.now) answer) }
+    ensures { IfOk result (λ answer. IsAnswer (SubsumesBy target.now clause.now)
+        (IsSubsumption target.now at.parent at.number clause.now) answer) }
 {
     let found = subsuming_picks(alloc, target, clause)?;
     match found {

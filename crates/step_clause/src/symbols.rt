@@ -91,7 +91,8 @@ fn allows_pivot(
     slots: &[Slot],
     c: &Literal,
 ) -> Result<bool, NoMemory>
-    ensures { IfOk result (λ allows. IsTrue allows ↔ AllowsPivot target.now.lits pivots.now slots.now c.now) }
+    ensures { IfOk result (λ allows. IsTrue allows
+        ↔ AllowsPivot target.now.lits pivots.now slots.now c.now) }
 {
     let first = c.copy(alloc)?;
     let pivots = Pivots {
@@ -114,7 +115,8 @@ pub fn symbols_allow(
     pivots: &Pivots,
     slots: &[Slot],
 ) -> Result<bool, NoMemory>
-    ensures { IfOk result (λ allows. IsTrue allows ↔ All (HasRoom target.now.lits pivots.now slots.now) slots.now) }
+    ensures { IfOk result (λ allows. IsTrue allows
+        ↔ All (HasRoom target.now.lits pivots.now slots.now) slots.now) }
 {
     for slot in slots {
         if !has_mate(target, &slot.literal) {

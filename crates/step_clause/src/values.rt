@@ -2,7 +2,8 @@
 #![tactic(auto, using(crate::proofs::Steps::term_steps))]
 
 ghost use Rattle.std.specs.Prelude.{◌≡◌, ◌+◌, map, IfOk};
-ghost use Rattle.unifier.specs.Substitution.{substituted, value};
+ghost use Rattle.unifier.specs.Substitution.{value};
+ghost use Rattle.dk_syntax.specs.Terms.{substituted};
 ghost use Rattle.step_clause.specs.Justifications.{closed, closed_terms};
 
 use dk_syntax::{NoMemory, Seq, Term};
@@ -43,7 +44,8 @@ fn close_each(terms: &[Term], alloc: Global, frozen: u32) -> Result<Seq<Term>, N
 
 /// What the substitution has for a variable, with `Any` for each variable from `frozen` on.
 fn closed_value(alloc: Global, solution: &Subst, frozen: u32, k: u32) -> Result<Term, NoMemory>
-    ensures { IfOk result (λ answer. answer ≡ substituted (closed frozen) (value solution.now.terms k)) }
+    ensures { IfOk result (λ answer. answer
+        ≡ substituted (closed frozen) (value solution.now.terms k)) }
 {
     match bound_term(solution.terms.as_slice(), k) {
         Some(term) => {
@@ -65,7 +67,8 @@ pub fn closed_values(
     from: u32,
     count: u32,
 ) -> Result<Seq<Term>, NoMemory>
-    ensures { IfOk result (λ all. all ≡ closed_terms frozen count (λ j. value solution.now.terms (from + j))) }
+    ensures { IfOk result (λ all. all ≡ closed_terms frozen count
+        (λ j. value solution.now.terms (from + j))) }
 {
     let mut all = Seq::from_vec(Vec::new(alloc));
     for j in 0..count {

@@ -1,25 +1,18 @@
 -- What binding a variable does to the substitutions that refine the bindings.
 use Rattle.std.proofs.Common.{◌≡◌, ◌≢◌, ◌≤◌, ◌<◌, ℕ, zero, suc, Bool, true, false, List, Option, Some, None, get_or, length, replicate, subst, refl, sym, ap, ◌∙◌, ◌⊎◌, inl, inr}
-use Rattle.std.specs.Prelude.{if◌then◌else◌, nat_eq, slice_set}
+use Rattle.std.specs.Prelude.{nat_eq, slice_set}
 use Rattle.std.specs.Option.{unwrap_or}
-use Rattle.std.proofs.lemmas.Bool.{eq-eqb, eqb-true}
+use Rattle.std.proofs.lemmas.Bool.{cases_Bool, eq-eqb, eqb-true, false_from_ne_true}
 use Rattle.std.proofs.lemmas.List.{get_or-set_same, get_or-set_other}
 use Rattle.std.proofs.Math.ListN.{length-set}
 use Rattle.dk_syntax.specs.declared.Term.{Term}
 use Rattle.dk_syntax.specs.declared.Term.TheVariants.{Var}
-use Rattle.unifier.proofs.Terms.{after, agree, comes, has_variable-Var, same, substituted-Var}
+use Rattle.dk_syntax.proofs.SubstitutionLaws.{after, agree, comes, is_variable, one, one_absent, one_comes, one_other, one_refined, one_same, substituted-Var}
 use Rattle.unifier.specs.Outcomes.{Resolves, Sound}
-use Rattle.unifier.specs.Substitution.{Below, Refines, Resolved, has_variable, substituted, value}
+use Rattle.unifier.specs.Substitution.{Refines, Resolved, value}
+use Rattle.dk_syntax.specs.Terms.{Below, has_variable, substituted}
 
 -- ---- cases
-
-pub test_cases : (b : Bool) → (b ≡ true) ⊎ (b ≡ false)
-test_cases true = inl refl
-test_cases false = inr refl
-
-pub not_true : (b : Bool) → (b ≡ true → ⊥) → b ≡ false
-not_true true h = absurd (h refl)
-not_true false h = refl
 
 pub true_not_false : (b : Bool) → b ≡ true → b ≡ false → ⊥
 true_not_false b p q = cc
@@ -30,12 +23,6 @@ entry_cases (Some t) = inr (t, refl)
 
 pub Some-injective : (t u : Term) → Some t ≡ Some u → t ≡ u
 Some-injective t u e = cc
-
-pub stands : (j : ℕ) (t : Term) → t ≡ Var j → has_variable j t ≡ true
-stands j t e = ap (has_variable j) e ∙ has_variable-Var j j ∙ eq-eqb j j refl
-
-pub is_variable : (j k : ℕ) (t : Term) → t ≡ Var j → has_variable k t ≡ true → j ≡ k
-is_variable j k t e h = eqb-true j k (sym (has_variable-Var k j) ∙ ap (has_variable k) (sym e) ∙ h)
 
 -- ---- the values of a list
 
@@ -81,7 +68,7 @@ pub form_general : (s : List (Option Term)) (m r : ℕ → Term) → Resolves s 
 form_general s m r ok h t = after r m t ∙ agree (λ k. substituted r (m k)) r t (λ k e. sym (ok.general r h k))
 
 pub form_apart : (s : List (Option Term)) (m : ℕ → Term) → Resolves s m → (t : Term) → Resolved s (substituted m t)
-form_apart s m ok t j u e = not_true (has_variable j (substituted m t)) (λ h.
+form_apart s m ok t j u e = false_from_ne_true (has_variable j (substituted m t)) (λ h.
     let w = comes m j t h in true_not_false (has_variable j (m w.0)) w.2 (ok.apart w.0 j u e))
 
 pub form_below : (s : List (Option Term)) (m : ℕ → Term) → Resolves s m → (t : Term) → Below (length s) t → Below (length s) (substituted m t)
@@ -89,40 +76,6 @@ form_below s m ok t b j h = let w = comes m j t h in ok.within w.0 (b w.0 w.1) j
 
 pub bound_form : (s : List (Option Term)) (m : ℕ → Term) (k : ℕ) (t : Term) → Resolves s m → get_or s k None ≡ Some t → m k ≡ substituted m t
 bound_form s m k t ok e = ok.refines k ∙ ap (substituted m) (value_some s k t e)
-
--- ---- one variable replaced
-
-abbrev pub one : ℕ → Term → ℕ → Term
-one k t j = if nat_eq j k then t else Var j
-
-pub one_same : (k : ℕ) (t : Term) → one k t k ≡ t
-one_same k t = ap (λ b. if b then t else Var k) (eq-eqb k k refl)
-
-pub one_other : (k : ℕ) (t : Term) (j : ℕ) → nat_eq j k ≡ false → one k t j ≡ Var j
-one_other k t j e = ap (λ b. if b then t else Var j) e
-
-pub one_refined : (k : ℕ) (t : Term) (r : ℕ → Term) → r k ≡ substituted r t → (u : Term) → substituted r (substituted (one k t) u) ≡ substituted r u
-one_refined k t r e u = after r (one k t) u ∙ agree (λ j. substituted r (one k t j)) r u (λ j h. elim (test_cases (nat_eq j k)) [
-  | inl p ↦ let i = eqb-true j k p in ap (λ z. substituted r (one k t z)) i ∙ ap (substituted r) (one_same k t) ∙ sym e ∙ ap r (sym i)
-  | inr p ↦ ap (substituted r) (one_other k t j p) ∙ substituted-Var r j
-])
-
-pub one_absent : (k : ℕ) (t u : Term) → has_variable k u ≡ false → substituted (one k t) u ≡ u
-one_absent k t u e = agree (one k t) Var u (λ j h. elim (test_cases (nat_eq j k)) [
-  | inl p ↦ absurd (true_not_false (has_variable k u) (ap (λ i. has_variable i u) (sym (eqb-true j k p)) ∙ h) e)
-  | inr p ↦ one_other k t j p
-]) ∙ same u
-
--- where a variable of a term with k replaced comes from
-pub one_comes : (k : ℕ) (t : Term) (j : ℕ) (u : Term) → has_variable j (substituted (one k t) u) ≡ true → (has_variable j t ≡ true) ⊎ ((has_variable j u ≡ true) × (nat_eq j k ≡ false))
-one_comes k t j u e =
-    let w = comes (one k t) j u e in
-    elim (test_cases (nat_eq w.0 k)) [
-      | inl p ↦ let i = eqb-true w.0 k p in inl (sym (ap (has_variable j) (ap (one k t) i ∙ one_same k t)) ∙ w.2)
-      | inr p ↦
-          let i = is_variable w.0 j (one k t w.0) (one_other k t w.0 p) w.2 in
-          inr (ap (λ n. has_variable n u) (sym i) ∙ w.1, ap (λ n. nat_eq n k) (sym i) ∙ p)
-    ]
 
 -- ---- the bindings with k bound to t
 
@@ -140,7 +93,7 @@ bound_there s k t j e = let other : j ≢ k = λ i. true_not_false (nat_eq j k) 
 
 -- an entry of the new bindings is the new one or an old one
 pub bound_entry : (s : List (Option Term)) (k : ℕ) (t : Term) → k < length s → (j : ℕ) (u : Term) → get_or (bound s k t) j None ≡ Some u → ((j ≡ k) × (u ≡ t)) ⊎ ((nat_eq j k ≡ false) × (get_or s j None ≡ Some u))
-bound_entry s k t l j u e = elim (test_cases (nat_eq j k)) [
+bound_entry s k t l j u e = elim (cases_Bool (nat_eq j k)) [
   | inl p ↦
       let i = eqb-true j k p in
       inl (i, Some-injective u t (sym e ∙ ap (λ n. get_or (bound s k t) n None) i ∙ bound_here s k t l))
@@ -148,7 +101,7 @@ bound_entry s k t l j u e = elim (test_cases (nat_eq j k)) [
 ]
 
 pub bound_old : (s : List (Option Term)) (k : ℕ) (t : Term) → k < length s → get_or s k None ≡ None → (r : ℕ → Term) → Refines (bound s k t) r → Refines s r
-bound_old s k t l free r h j = elim (test_cases (nat_eq j k)) [
+bound_old s k t l free r h j = elim (cases_Bool (nat_eq j k)) [
   | inl p ↦
       let i = eqb-true j k p in
       sym (ap (substituted r) (value_none s j (ap (λ n. get_or s n None) i ∙ free)) ∙ substituted-Var r j)
@@ -159,7 +112,7 @@ pub bound_new : (s : List (Option Term)) (k : ℕ) (t : Term) → k < length s �
 bound_new s k t l r h = h k ∙ ap (substituted r) (value_some (bound s k t) k t (bound_here s k t l))
 
 pub bound_refined : (s : List (Option Term)) (k : ℕ) (t : Term) → k < length s → (r : ℕ → Term) → Refines s r → r k ≡ substituted r t → Refines (bound s k t) r
-bound_refined s k t l r h e j = elim (test_cases (nat_eq j k)) [
+bound_refined s k t l r h e j = elim (cases_Bool (nat_eq j k)) [
   | inl p ↦
       let i = eqb-true j k p in
       ap r i ∙ e ∙ ap (substituted r) (sym (value_some (bound s k t) k t (bound_here s k t l))) ∙ ap (λ n. substituted r (value (bound s k t) n)) (sym i)
@@ -182,7 +135,7 @@ with_bound_refines s m k t ok l free absent =
     ∙ sym (one_absent k (substituted m t) (substituted m t) absent) ∙ with_bound_after m k t t)
 
 with_bound_free : (s : List (Option Term)) (m : ℕ → Term) (k : ℕ) (t : Term) → Resolves s m → k < length s → (x : ℕ) → get_or (bound s k t) x None ≡ None → with_bound m k t x ≡ Var x
-with_bound_free s m k t ok l x e = elim (test_cases (nat_eq x k)) [
+with_bound_free s m k t ok l x e = elim (cases_Bool (nat_eq x k)) [
   | inl p ↦ absurd (
       let a = bound_here s k t l in
       let b = ap (λ n. get_or (bound s k t) n None) (eqb-true x k p) in cc)
@@ -192,7 +145,7 @@ with_bound_free s m k t ok l x e = elim (test_cases (nat_eq x k)) [
 ]
 
 with_bound_apart : (s : List (Option Term)) (m : ℕ → Term) (k : ℕ) (t : Term) → Resolves s m → k < length s → has_variable k (substituted m t) ≡ false → (x j : ℕ) (u : Term) → get_or (bound s k t) j None ≡ Some u → has_variable j (with_bound m k t x) ≡ false
-with_bound_apart s m k t ok l absent x j u e = not_true (has_variable j (with_bound m k t x)) (λ h.
+with_bound_apart s m k t ok l absent x j u e = false_from_ne_true (has_variable j (with_bound m k t x)) (λ h.
     elim (one_comes k (substituted m t) j (m x) h) [
       | inl p ↦ elim (bound_entry s k t l j u e) [
         | inl q ↦ true_not_false (has_variable j (substituted m t)) p (ap (λ n. has_variable n (substituted m t)) q.0 ∙ absent)

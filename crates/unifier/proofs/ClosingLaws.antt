@@ -1,19 +1,20 @@
 -- What `Any` for the unbound variables makes of settled lists: no variable from `frozen` on is left, and most general lists give one value.
 use Rattle.std.proofs.Common.{◌≡◌, ◌<◌, ℕ, true, false, List, [], ◌∷◌, map, Option, Some, None, get_or, subst, refl, sym, ap, ◌∙◌, inl, inr}
 use Rattle.std.specs.Prelude.{if◌then◌else◌, nat_lt}
-use Rattle.std.proofs.lemmas.Bool.{eq-eqb, eqb-true, ltb-true}
+use Rattle.std.proofs.lemmas.Bool.{cases_Bool, eq-eqb, eqb-true, false_from_ne_true, ltb-true, or_left, or_right}
 use Rattle.dk_syntax.proofs.TermLaws.{App-injective, Each, Var-injective, term_induction}
 use Rattle.dk_syntax.specs.declared.Term.{Term}
 use Rattle.dk_syntax.specs.declared.Term.TheVariants.{Any, App, Var}
-use Rattle.unifier.proofs.BoundLaws.{Some-injective, entry_cases, not_true, refined_value, test_cases, true_not_false, value_none, value_some}
+use Rattle.unifier.proofs.BoundLaws.{Some-injective, entry_cases, refined_value, true_not_false, value_none, value_some}
 use Rattle.unifier.proofs.ResolutionLaws.{value_fixes}
-use Rattle.unifier.proofs.Terms.{comes, has_variable-Any, has_variable-App, has_variable-Var, or_left, or_right, substituted-Any, substituted-App, substituted-Var}
+use Rattle.dk_syntax.proofs.SubstitutionLaws.{comes, has_variable-Any, has_variable-App, has_variable-Var, substituted-Any, substituted-App, substituted-Var}
 use Rattle.unifier.specs.Closing.{any_or_variable, closed_entry, closing}
-use Rattle.unifier.specs.Substitution.{Below, Refines, Resolved, Settled, any_true, has_variable, substituted, value}
+use Rattle.unifier.specs.Substitution.{Refines, Resolved, Settled, value}
+use Rattle.dk_syntax.specs.Terms.{Below, any_true, has_variable, substituted}
 
 -- what stands in the value of a term is unbound
 pub value_resolved : (frozen : ℕ) (s : List (Option Term)) → Settled frozen s → (t : Term) → Resolved s (substituted (value s) t)
-value_resolved frozen s ok t j u e = not_true (has_variable j (substituted (value s) t)) (λ h.
+value_resolved frozen s ok t j u e = false_from_ne_true (has_variable j (substituted (value s) t)) (λ h.
     let w = comes (value s) j t h in
     elim (entry_cases (get_or s w.0 None)) [
       | inl p ↦
@@ -33,7 +34,7 @@ free_there s j res = elim (entry_cases (get_or s j None)) [
 pub closed_below : (frozen : ℕ) (s : List (Option Term)) (t : Term) → Resolved s t → Below frozen (substituted (closing frozen s) t)
 closed_below frozen s t res j h =
     let w = comes (closing frozen s) j t h in
-    elim (test_cases (nat_lt w.0 frozen)) [
+    elim (cases_Bool (nat_lt w.0 frozen)) [
       | inl p ↦
           let v : closing frozen s w.0 ≡ Var w.0 = ap (λ b. if b then Var w.0 else any_or_variable (get_or s w.0 None) w.0) p in
           let i = eqb-true w.0 j (sym (has_variable-Var j w.0) ∙ sym (ap (has_variable j) v) ∙ w.2) in
@@ -48,7 +49,7 @@ closed_below frozen s t res j h =
 
 pub entry_below : (frozen : ℕ) (s : List (Option Term)) (k : ℕ) (t : Term) → ((k : ℕ) (t : Term) → get_or s k None ≡ Some t → Resolved s t) → closed_entry frozen s k (get_or s k None) ≡ Some t → Below frozen t
 entry_below frozen s k t res e = elim (entry_cases (get_or s k None)) [
-  | inl p ↦ elim (test_cases (nat_lt k frozen)) [
+  | inl p ↦ elim (cases_Bool (nat_lt k frozen)) [
     | inl q ↦ absurd (
         let a = ap (closed_entry frozen s k) p in
         let b = ap (λ x. if x then None else Some Any) q in
@@ -79,7 +80,7 @@ Becomes frozen s u j b = Settled frozen s → nat_lt j frozen ≡ false → Reso
 
 becomes : (frozen : ℕ) (s u : List (Option Term)) (j : ℕ) (b : Term) → Becomes frozen s u j b
 becomes frozen s u j = term_induction (Becomes frozen s u j)
-    (λ i ok p res e. elim (test_cases (nat_lt i frozen)) [
+    (λ i ok p res e. elim (cases_Bool (nat_lt i frozen)) [
       | inl q ↦ absurd (
           let v = value_fixes frozen s ok i (ltb-true i frozen q) in
           let x : i ≡ j = Var-injective i j (sym v ∙ sym (substituted-Var (value s) i) ∙ e) in
@@ -100,18 +101,18 @@ twin_all : (frozen : ℕ) (s u : List (Option Term)) (args : List Term) → Each
 twin_all frozen s u [] known h g e = refl
 twin_all frozen s u (x ∷ xs) known h g e =
     let a = known.0
-    (λ j t m. not_true (has_variable j x) (λ k. let p = or_left (has_variable j x) (any_true (map (has_variable j) xs)) k in let q = h j t m in cc))
-    (λ j t m. not_true (has_variable j (substituted (value u) x)) (λ k. let p = or_left (has_variable j (substituted (value u) x)) (any_true (map (has_variable j) (map (substituted (value u)) xs))) k in let q = g j t m in cc))
+    (λ j t m. false_from_ne_true (has_variable j x) (λ k. let p = or_left (has_variable j x) (any_true (map (has_variable j) xs)) k in let q = h j t m in cc))
+    (λ j t m. false_from_ne_true (has_variable j (substituted (value u) x)) (λ k. let p = or_left (has_variable j (substituted (value u) x)) (any_true (map (has_variable j) (map (substituted (value u)) xs))) k in let q = g j t m in cc))
     (cc) in
     let b = twin_all frozen s u xs known.1
-    (λ j t m. not_true (any_true (map (has_variable j) xs)) (λ k. let p = or_right (has_variable j x) (any_true (map (has_variable j) xs)) k in let q = h j t m in cc))
-    (λ j t m. not_true (any_true (map (has_variable j) (map (substituted (value u)) xs))) (λ k. let p = or_right (has_variable j (substituted (value u) x)) (any_true (map (has_variable j) (map (substituted (value u)) xs))) k in let q = g j t m in cc))
+    (λ j t m. false_from_ne_true (any_true (map (has_variable j) xs)) (λ k. let p = or_right (has_variable j x) (any_true (map (has_variable j) xs)) k in let q = h j t m in cc))
+    (λ j t m. false_from_ne_true (any_true (map (has_variable j) (map (substituted (value u)) xs))) (λ k. let p = or_right (has_variable j (substituted (value u) x)) (any_true (map (has_variable j) (map (substituted (value u)) xs))) k in let q = g j t m in cc))
     (cc) in
     cc
 
 twin : (frozen : ℕ) (s u : List (Option Term)) → Settled frozen s → Settled frozen u → (a : Term) → Twin frozen s u a
 twin frozen s u ok uk = term_induction (Twin frozen s u)
-    (λ j h g e. elim (test_cases (nat_lt j frozen)) [
+    (λ j h g e. elim (cases_Bool (nat_lt j frozen)) [
       | inl p ↦
           let v : substituted (value u) (Var j) ≡ Var j = substituted-Var (value u) j ∙ value_fixes frozen u uk j (ltb-true j frozen p) in
           closing_low frozen s j p ∙ sym (closing_low frozen u j p) ∙ ap (substituted (closing frozen u)) (sym v)

@@ -4,15 +4,15 @@ use Rattle.dk_syntax.proofs.TermLaws.{App-injective, App-not-Any, Var-injective,
 use Rattle.dk_syntax.specs.declared.SymKey.{SymKey}
 use Rattle.dk_syntax.specs.declared.Term.{Term}
 use Rattle.dk_syntax.specs.declared.Term.TheVariants.{Any, App, Var}
-use Rattle.unifier.proofs.BoundLaws.{form_general, is_variable, stands}
-use Rattle.unifier.proofs.ListLaws.{equal_here, maps_long, maps_same}
+use Rattle.unifier.proofs.BoundLaws.{form_general}
+use Rattle.dk_syntax.proofs.SubstitutionLaws.{acyclic, equal_here, is_variable, maps_long, maps_same, stands, substituted-Any, substituted-App, substituted-Var}
 use Rattle.unifier.proofs.OccurrenceLaws.{leads_nowhere}
-use Rattle.unifier.proofs.Terms.{acyclic, substituted-Any, substituted-App, substituted-Var}
 use Rattle.unifier.specs.Comparing.{Follows, Needs, NextStep}
 use Rattle.unifier.specs.declared.comparison.Step.{Step}
 use Rattle.unifier.specs.declared.comparison.Step.TheVariants.{Bind, Different, Equal}
 use Rattle.unifier.specs.Outcomes.{Refuted, Resolves, Sound}
-use Rattle.unifier.specs.Substitution.{Below, Fixes, Refines, has_variable, substituted}
+use Rattle.unifier.specs.Substitution.{Fixes, Refines}
+use Rattle.dk_syntax.specs.Terms.{Below, has_variable, substituted}
 
 -- ---- the kinds of terms
 

@@ -2,11 +2,9 @@ pub mod BelowLaws
 pub mod BoundLaws
 pub mod ClosingLaws
 pub mod ComparisonLaws
-pub mod ListLaws
 pub mod OccurrenceLaws
 pub mod OutcomeLaws
 pub mod ResolutionLaws
 pub mod Sizes
 pub mod SolutionLaws
 pub mod Steps
-pub mod Terms

@@ -5,11 +5,11 @@ use Rattle.dk_syntax.specs.declared.SymKey.{SymKey}
 use Rattle.dk_syntax.specs.declared.Term.{Term}
 use Rattle.dk_syntax.specs.declared.Term.TheVariants.{App}
 use Rattle.unifier.proofs.BoundLaws.{bound, bound_length, bound_old, bound_refined, bound_sound}
-use Rattle.unifier.proofs.ListLaws.{SameTo, equal_here, maps_same, same_maps, same_more}
-use Rattle.unifier.proofs.Terms.{substituted-App}
+use Rattle.dk_syntax.proofs.SubstitutionLaws.{SameTo, equal_here, maps_same, same_maps, same_more, substituted-App}
 use Rattle.unifier.specs.Comparing.{Follows, Needs}
 use Rattle.unifier.specs.Outcomes.{Extended, Outcome, Refuted, Sound}
-use Rattle.unifier.specs.Substitution.{Fixes, Refines, substituted}
+use Rattle.unifier.specs.Substitution.{Fixes, Refines}
+use Rattle.dk_syntax.specs.Terms.{substituted}
 
 -- ---- one binding after another
 

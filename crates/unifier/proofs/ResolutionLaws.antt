@@ -4,10 +4,11 @@ use Rattle.dk_syntax.specs.declared.SymKey.{SymKey}
 use Rattle.dk_syntax.specs.declared.Term.{Term}
 use Rattle.dk_syntax.specs.declared.Term.TheVariants.{App, Var}
 use Rattle.unifier.proofs.BoundLaws.{Some-injective, entry_cases, true_not_false, value_none, value_some}
-use Rattle.unifier.proofs.Terms.{after, agree, same, substituted-App, substituted-Var}
+use Rattle.dk_syntax.proofs.SubstitutionLaws.{after, agree, same, substituted-App, substituted-Var}
 use Rattle.unifier.specs.Outcomes.{Resolves, Sound}
 use Rattle.unifier.specs.Resolving.{Known, resolved_entry}
-use Rattle.unifier.specs.Substitution.{Below, Fixes, Refines, Resolved, SameInstances, Settled, has_variable, substituted, value}
+use Rattle.unifier.specs.Substitution.{Fixes, Refines, Resolved, SameInstances, Settled, value}
+use Rattle.dk_syntax.specs.Terms.{Below, has_variable, substituted}
 
 -- ---- the parts of the walk
 

@@ -2,12 +2,14 @@
 use Rattle.std.proofs.Common.{◌≡◌, ◌≤◌, ◌<◌, ◌+◌, ℕ, true, List, Option, get_or, length, subst, arith, sym, ap, ◌∙◌, inl, inr}
 use Rattle.dk_syntax.specs.declared.Term.{Term}
 use Rattle.unifier.proofs.BoundLaws.{unbound, unbound_refined}
-use Rattle.unifier.proofs.OccurrenceLaws.{any_default, or_equal}
+use Rattle.std.proofs.lemmas.List.{get_or_default}
+use Rattle.dk_syntax.proofs.ListLaws.{or_equal}
 use Rattle.unifier.proofs.OutcomeLaws.{later}
 use Rattle.unifier.proofs.ResolutionLaws.{refines_itself, value_fixes}
 use Rattle.unifier.specs.Outcomes.{Extended, Outcome, Refuted}
 use Rattle.unifier.specs.Solutions.{Equal, Solves}
-use Rattle.unifier.specs.Substitution.{Refines, SameInstances, Settled, substituted, value}
+use Rattle.unifier.specs.Substitution.{Refines, SameInstances, Settled, value}
+use Rattle.dk_syntax.specs.Terms.{substituted}
 
 -- the equations hold up to a place
 abbrev pub SolvesTo : (ℕ → Term) → List (Term × Term) → ℕ → Type 0
@@ -22,7 +24,7 @@ unbound_extended frozen n eqs = record {
 pub solves_more : (r : ℕ → Term) (eqs : List (Term × Term)) (i : ℕ) (e : Term × Term) → e ≡ get_or eqs i e → i < length eqs → SolvesTo r eqs i → substituted r e.0 ≡ substituted r e.1 → SolvesTo r eqs (i + 1)
 solves_more r eqs i e is l h q k d m = elim (or_equal k i m) [
   | inl p ↦ h k d p
-  | inr p ↦ subst (Equal r) (is ∙ any_default eqs i e d l ∙ ap (λ j. get_or eqs j d) (sym p)) q
+  | inr p ↦ subst (Equal r) (is ∙ get_or_default eqs i e d l ∙ ap (λ j. get_or eqs j d) (sym p)) q
 ]
 
 pub solves_here : (r : ℕ → Term) (eqs : List (Term × Term)) (i : ℕ) (e : Term × Term) → e ≡ get_or eqs i e → Equal r (get_or eqs i e) → substituted r e.0 ≡ substituted r e.1

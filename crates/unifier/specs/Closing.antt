@@ -2,7 +2,8 @@
 use Rattle.std.specs.Prelude.{ℕ, nat_lt, if◌then◌else◌, List, get_or, Option, Some, None}
 use Rattle.dk_syntax.specs.declared.Term.{Term}
 use Rattle.dk_syntax.specs.declared.Term.TheVariants.{Any, Var}
-use Rattle.unifier.specs.Substitution.{substituted, value}
+use Rattle.unifier.specs.Substitution.{value}
+use Rattle.dk_syntax.specs.Terms.{substituted}
 
 -- a variable's entry where `next` comes after the first list: the entries of both lists are given
 abbrev pub composed_entry : List (Option Term) → Option Term → Option Term → Option Term

@@ -4,7 +4,8 @@ use Rattle.dk_syntax.specs.declared.Term.{Term}
 use Rattle.unifier.specs.declared.comparison.Step.{Step}
 use Rattle.unifier.specs.declared.comparison.Step.TheVariants.{Bind, Different, Equal}
 use Rattle.unifier.specs.Outcomes.{Refuted, Resolves}
-use Rattle.unifier.specs.Substitution.{Below, Fixes, Refines, has_variable, substituted}
+use Rattle.unifier.specs.Substitution.{Fixes, Refines}
+use Rattle.dk_syntax.specs.Terms.{Below, has_variable, substituted}
 
 -- what refines the bindings has Q
 abbrev pub Follows : ℕ → ((ℕ → Term) → Type 0) → List (Option Term) → Type 0

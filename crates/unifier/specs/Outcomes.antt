@@ -2,7 +2,8 @@
 use Rattle.std.specs.Prelude.{ℕ, ◌≡◌, ◌<◌, ◌≤◌, Bool, true, false, List, get_or, length, Option, Some, None}
 use Rattle.dk_syntax.specs.declared.Term.{Term}
 use Rattle.dk_syntax.specs.declared.Term.TheVariants.{Var}
-use Rattle.unifier.specs.Substitution.{substituted, has_variable, Below, Fixes, Refines}
+use Rattle.unifier.specs.Substitution.{Fixes, Refines}
+use Rattle.dk_syntax.specs.Terms.{substituted, has_variable, Below}
 
 -- m is a most general substitution that refines the bindings, and no bound variable stands in its terms
 pub record Resolves (s : List (Option Term)) (m : ℕ → Term) : Type 0 where

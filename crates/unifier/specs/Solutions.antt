@@ -2,7 +2,8 @@
 use Rattle.std.specs.Prelude.{ℕ, ◌≡◌, List}
 use Rattle.std.specs.List.{All}
 use Rattle.dk_syntax.specs.declared.Term.{Term}
-use Rattle.unifier.specs.Substitution.{substituted, Below, Fixes}
+use Rattle.unifier.specs.Substitution.{Fixes}
+use Rattle.dk_syntax.specs.Terms.{substituted, Below}
 
 -- r makes the two terms equal
 abbrev pub Equal : (ℕ → Term) → Term × Term → Type 0

@@ -2,7 +2,8 @@
 ghost use Rattle.std.specs.Prelude.{◌≡◌, ◌<◌, ℕ, map, max, length, get_or, None, Some, IfOk, MatchOption};
 ghost use Rattle.dk_syntax.specs.declared.Term.{Term as Tree};
 ghost use Rattle.unifier.specs.Closing.{closed_entry, closing, composed_entry};
-ghost use Rattle.unifier.specs.Substitution.{Below, NoneBoundStands, Refines, Settled, substituted, value};
+ghost use Rattle.unifier.specs.Substitution.{NoneBoundStands, Refines, Settled, value};
+ghost use Rattle.dk_syntax.specs.Terms.{Below, substituted};
 
 use crate::bindings::bound_term;
 use crate::equations::Subst;
@@ -50,7 +51,8 @@ pub fn apply(alloc: Global, s: &Subst, t: &Term) -> Result<Term, NoMemory>
 }
 
 fn entry(terms: &[Option<Term>], k: usize) -> Option<&Term>
-    ensures { MatchOption result (get_or terms.now k None ≡ None) (λ term. get_or terms.now k None ≡ Some term.now) }
+    ensures { MatchOption result (get_or terms.now k None ≡ None)
+        (λ term. get_or terms.now k None ≡ Some term.now) }
 {
     match terms.get(k) {
         Some(Some(term)) => Some(term),
@@ -64,7 +66,8 @@ fn compose_entry(
     next: &[Option<Term>],
     k: usize,
 ) -> Result<Option<Term>, NoMemory>
-    ensures { IfOk result (λ entry. entry ≡ composed_entry next.now (get_or first.now k None) (get_or next.now k None)) }
+    ensures { IfOk result (λ entry. entry
+        ≡ composed_entry next.now (get_or first.now k None) (get_or next.now k None)) }
 {
     match entry(first, k) {
         Some(term) => {
@@ -84,8 +87,11 @@ fn compose_entry(
 /// The substitution that applies the first and then the next. It has a place for each variable for which
 /// one of them has a place.
 pub fn compose(alloc: Global, first: &Subst, next: &Subst) -> Result<Subst, NoMemory>
-    ensures length { IfOk result (λ s. length s.terms ≡ max (length first.now.terms) (length next.now.terms)) }
-    ensures terms { IfOk result (λ s. (k : ℕ) → k < length s.terms → get_or s.terms k None ≡ composed_entry next.now.terms (get_or first.now.terms k None) (get_or next.now.terms k None)) }
+    ensures length { IfOk result (λ s. length s.terms
+        ≡ max (length first.now.terms) (length next.now.terms)) }
+    ensures terms { IfOk result (λ s. (k : ℕ) → k < length s.terms
+        → get_or s.terms k None ≡ composed_entry next.now.terms (get_or first.now.terms k None)
+        (get_or next.now.terms k None)) }
 {
     let firsts = first.terms.as_slice();
     let nexts = next.terms.as_slice();
@@ -163,8 +169,11 @@ fn close_entry(
 /// and inside its terms. A variable whose number is the list's length or greater is unbound.
 pub fn close_with_any(alloc: Global, s: &Subst, frozen: u32) -> Result<Subst, NoMemory>
     ensures length { IfOk result (λ closed. length closed.terms ≡ length s.now.terms) }
-    ensures terms { IfOk result (λ closed. (k : ℕ) → k < length s.now.terms → get_or closed.terms k None ≡ closed_entry frozen s.now.terms k (get_or s.now.terms k None)) }
-    ensures below { IfOk result (λ closed. NoneBoundStands s.now.terms → (k : ℕ) (t : Tree) → get_or closed.terms k None ≡ Some t → Below frozen t) }
+    ensures terms { IfOk result (λ closed. (k : ℕ) → k < length s.now.terms
+        → get_or closed.terms k None ≡ closed_entry frozen s.now.terms k
+        (get_or s.now.terms k None)) }
+    ensures below { IfOk result (λ closed. NoneBoundStands s.now.terms → (k : ℕ) (t : Tree)
+        → get_or closed.terms k None ≡ Some t → Below frozen t) }
 {
     let entries = s.terms.as_slice();
     let mut terms = Seq::from_vec(Vec::new(alloc));
@@ -182,5 +191,7 @@ pub fn closes_alike(s: &Subst, u: &Subst, frozen: u32)
     requires settled_u { Settled frozen u.now.terms }
     requires u_refines { Refines s.now.terms (value u.now.terms) }
     requires s_refines { Refines u.now.terms (value s.now.terms) }
-    ensures { (t : Tree) → substituted (closing frozen s.now.terms) (substituted (value s.now.terms) t) ≡ substituted (closing frozen u.now.terms) (substituted (value u.now.terms) t) }
+    ensures { (t : Tree) → substituted (closing frozen s.now.terms)
+        (substituted (value s.now.terms) t)
+        ≡ substituted (closing frozen u.now.terms) (substituted (value u.now.terms) t) }
 {}

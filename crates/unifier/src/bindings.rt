@@ -45,7 +45,8 @@ impl Bindings {
 
 /// The term of a bound variable.
 pub fn bound_term(terms: &[Option<Term>], k: u32) -> Option<&Term>
-    ensures { MatchOption result (get_or terms.now k None ≡ None) (λ term. get_or terms.now k None ≡ Some term.now) }
+    ensures { MatchOption result (get_or terms.now k None ≡ None)
+        (λ term. get_or terms.now k None ≡ Some term.now) }
 {
     match terms.get(k as usize) {
         Some(Some(term)) => Some(term),

@@ -1,7 +1,7 @@
 //! Whether all variables are below a number.
 ghost use Rattle.std.specs.Prelude.{◌↔◌, IsTrue};
 ghost use Rattle.unifier.specs.Solutions.{EquationsBelow};
-ghost use Rattle.unifier.specs.Substitution.{Below, EachBelow};
+ghost use Rattle.dk_syntax.specs.Terms.{Below, EachBelow};
 
 use crate::equations::Equations;
 use dk_syntax::Term;

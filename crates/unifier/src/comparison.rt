@@ -3,7 +3,8 @@ ghost use Rattle.std.specs.Prelude.{◌≡◌, ◌<◌, ℕ, length, get_or, map
 ghost use Rattle.dk_syntax.specs.declared.Term.{Term as Tree};
 ghost use Rattle.unifier.specs.Comparing.{NextStep};
 ghost use Rattle.unifier.specs.Outcomes.{Sound};
-ghost use Rattle.unifier.specs.Substitution.{Below, EachBelow, Refines, substituted};
+ghost use Rattle.unifier.specs.Substitution.{Refines};
+ghost use Rattle.dk_syntax.specs.Terms.{Below, EachBelow, substituted};
 
 use crate::bindings::bound_term;
 use crate::occurrence::occurs;
@@ -23,9 +24,12 @@ pub enum Step {
 
 /// The term that stands for a term: a bound variable's term takes the variable's place.
 fn follow<'a>(s: &'a [Option<Term>], t: &'a Term, fuel: u64) -> Result<&'a Term, NoMemory>
-    ensures same { IfOk result (λ end. (r : ℕ → Tree) → Refines s.now r → substituted r t.now ≡ substituted r end.now) }
-    ensures free { IfOk result (λ end. (j : ℕ) → end.now ≡ Term.Var j → get_or s.now j None ≡ None) }
-    ensures below { IfOk result (λ end. ((k : ℕ) (u : Tree) → get_or s.now k None ≡ Some u → Below (length s.now) u) → Below (length s.now) t.now → Below (length s.now) end.now) }
+    ensures same { IfOk result (λ end. (r : ℕ → Tree) → Refines s.now r
+        → substituted r t.now ≡ substituted r end.now) }
+    ensures free { IfOk result (λ end. (j : ℕ) → end.now ≡ Term.Var j
+        → get_or s.now j None ≡ None) }
+    ensures below { IfOk result (λ end. ((k : ℕ) (u : Tree) → get_or s.now k None ≡ Some u
+        → Below (length s.now) u) → Below (length s.now) t.now → Below (length s.now) end.now) }
 {
     if fuel == 0 {
         return Err(NoMemory);
@@ -115,7 +119,8 @@ pub fn next_step(
     requires sound { Sound frozen s.now }
     requires below_a { Below (length s.now) a.now }
     requires below_b { Below (length s.now) b.now }
-    ensures { IfOk result (λ step. NextStep frozen (λ r. substituted r a.now ≡ substituted r b.now) s.now step) }
+    ensures { IfOk result (λ step. NextStep frozen
+        (λ r. substituted r a.now ≡ substituted r b.now) s.now step) }
 {
     if fuel == 0 {
         return Err(NoMemory);
@@ -141,7 +146,8 @@ fn ends_step(
     requires below_b { Below (length s.now) b.now }
     requires end_a { (j : ℕ) → a.now ≡ Term.Var j → get_or s.now j None ≡ None }
     requires end_b { (j : ℕ) → b.now ≡ Term.Var j → get_or s.now j None ≡ None }
-    ensures { IfOk result (λ step. NextStep frozen (λ r. substituted r a.now ≡ substituted r b.now) s.now step) }
+    ensures { IfOk result (λ step. NextStep frozen
+        (λ r. substituted r a.now ≡ substituted r b.now) s.now step) }
 {
     match a {
         Term::Var(i) => {
@@ -186,7 +192,8 @@ fn terms_step(
     requires sound { Sound frozen s.now }
     requires below_xs { EachBelow (length s.now) xs.now }
     requires below_ys { EachBelow (length s.now) ys.now }
-    ensures { IfOk result (λ step. NextStep frozen (λ r. map (substituted r) xs.now ≡ map (substituted r) ys.now) s.now step) }
+    ensures { IfOk result (λ step. NextStep frozen
+        (λ r. map (substituted r) xs.now ≡ map (substituted r) ys.now) s.now step) }
 {
     if xs.len() != ys.len() {
         return Ok(Step::Different);

@@ -1,7 +1,7 @@
 //! Bindings under which more terms are equal.
 ghost use Rattle.std.specs.Prelude.{◌≡◌, length, map, IfOk};
 ghost use Rattle.unifier.specs.Outcomes.{Outcome, Sound};
-ghost use Rattle.unifier.specs.Substitution.{Below, EachBelow, substituted};
+ghost use Rattle.dk_syntax.specs.Terms.{Below, EachBelow, substituted};
 
 use crate::bindings::Bindings;
 use crate::comparison::{Step, next_step};
@@ -19,7 +19,9 @@ fn bind_until_equal(
     requires sound { Sound frozen bindings.old.terms }
     requires below_a { Below (length bindings.old.terms) a.now }
     requires below_b { Below (length bindings.old.terms) b.now }
-    ensures { IfOk result (λ equal. Outcome frozen (λ r. substituted r a.now ≡ substituted r b.now) bindings.old.terms bindings.new.terms equal) }
+    ensures { IfOk result (λ equal. Outcome frozen
+        (λ r. substituted r a.now ≡ substituted r b.now) bindings.old.terms bindings.new.terms
+        equal) }
 {
     for _round in 0..u64::MAX {
         let step = next_step(alloc, bindings.terms.as_slice(), a, b, frozen, u64::MAX)?;
@@ -47,7 +49,9 @@ pub fn extend(
     requires sound { Sound frozen bindings.old.terms }
     requires below_a { Below (length bindings.old.terms) a.now }
     requires below_b { Below (length bindings.old.terms) b.now }
-    ensures { IfOk result (λ equal. Outcome frozen (λ r. substituted r a.now ≡ substituted r b.now) bindings.old.terms bindings.new.terms equal) }
+    ensures { IfOk result (λ equal. Outcome frozen
+        (λ r. substituted r a.now ≡ substituted r b.now) bindings.old.terms bindings.new.terms
+        equal) }
 {
     match (a, b) {
         (Term::App(f, xs), Term::App(g, ys)) => {
@@ -76,7 +80,9 @@ pub fn extend_terms(
     requires sound { Sound frozen bindings.old.terms }
     requires below_xs { EachBelow (length bindings.old.terms) xs.now }
     requires below_ys { EachBelow (length bindings.old.terms) ys.now }
-    ensures { IfOk result (λ equal. Outcome frozen (λ r. map (substituted r) xs.now ≡ map (substituted r) ys.now) bindings.old.terms bindings.new.terms equal) }
+    ensures { IfOk result (λ equal. Outcome frozen
+        (λ r. map (substituted r) xs.now ≡ map (substituted r) ys.now) bindings.old.terms
+        bindings.new.terms equal) }
 {
     if xs.len() != ys.len() {
         return Ok(false);

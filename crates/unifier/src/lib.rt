@@ -36,6 +36,3 @@ pub use equations::{Equations, Subst};
 pub use extension::{extend, extend_terms};
 pub use resolution::resolved;
 pub use solution::solve;
-
-#[cfg(test)]
-mod tests;

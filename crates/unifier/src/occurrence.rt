@@ -3,7 +3,7 @@ ghost use Rattle.std.specs.Prelude.{◌≡◌, ◌⊎◌, ℕ, true, false, get_
 ghost use Rattle.dk_syntax.specs.declared.Term.{Term as Tree};
 ghost use Rattle.unifier.specs.Comparing.{Marked};
 ghost use Rattle.unifier.specs.Outcomes.{Resolves};
-ghost use Rattle.unifier.specs.Substitution.{any_true, has_variable, substituted};
+ghost use Rattle.dk_syntax.specs.Terms.{any_true, has_variable, substituted};
 
 use crate::bindings::bound_term;
 use dk_syntax::{NoMemory, Term};
@@ -29,7 +29,8 @@ fn is_marked(marks: &[bool], j: u32) -> bool
 }
 
 fn mark(marks: &mut [bool], j: u32)
-    ensures { (k : ℕ) → get_or marks.new k false ≡ true → (get_or marks.old k false ≡ true) ⊎ (k ≡ j) }
+    ensures { (k : ℕ) → get_or marks.new k false ≡ true → (get_or marks.old k false ≡ true)
+        ⊎ (k ≡ j) }
 {
     let place = j as usize;
     if place < marks.len() {
@@ -49,7 +50,8 @@ fn leads_to(
 ) -> Result<bool, NoMemory>
     requires free { get_or s.now k None ≡ None }
     requires marked { Marked s.now k marks.old }
-    ensures found { IfOk result (λ found. (m : ℕ → Tree) → Resolves s.now m → found ≡ has_variable k (substituted m t.now)) }
+    ensures found { IfOk result (λ found. (m : ℕ → Tree) → Resolves s.now m
+        → found ≡ has_variable k (substituted m t.now)) }
     ensures marked { Marked s.now k marks.new }
 {
     if fuel == 0 {
@@ -78,7 +80,8 @@ fn variable_leads_to(
 ) -> Result<bool, NoMemory>
     requires free { get_or s.now k None ≡ None }
     requires marked { Marked s.now k marks.old }
-    ensures found { IfOk result (λ found. (m : ℕ → Tree) → Resolves s.now m → found ≡ has_variable k (m j)) }
+    ensures found { IfOk result (λ found. (m : ℕ → Tree) → Resolves s.now m
+        → found ≡ has_variable k (m j)) }
     ensures marked { Marked s.now k marks.new }
 {
     if j == k {
@@ -109,7 +112,8 @@ fn one_leads_to(
 ) -> Result<bool, NoMemory>
     requires free { get_or s.now k None ≡ None }
     requires marked { Marked s.now k marks.old }
-    ensures found { IfOk result (λ found. (m : ℕ → Tree) → Resolves s.now m → found ≡ any_true (map (λ t. has_variable k (substituted m t)) terms.now)) }
+    ensures found { IfOk result (λ found. (m : ℕ → Tree) → Resolves s.now m
+        → found ≡ any_true (map (λ t. has_variable k (substituted m t)) terms.now)) }
     ensures marked { Marked s.now k marks.new }
 {
     for term in terms {
@@ -124,7 +128,8 @@ fn one_leads_to(
 /// Whether the variable, which is unbound, stands in the term through the bindings.
 pub fn occurs(alloc: Global, k: u32, s: &[Option<Term>], t: &Term) -> Result<bool, NoMemory>
     requires { get_or s.now k None ≡ None }
-    ensures { IfOk result (λ found. (m : ℕ → Tree) → Resolves s.now m → found ≡ has_variable k (substituted m t.now)) }
+    ensures { IfOk result (λ found. (m : ℕ → Tree) → Resolves s.now m
+        → found ≡ has_variable k (substituted m t.now)) }
 {
     let mut marks = no_marks(alloc, s.len())?;
     let found = leads_to(k, s, &mut marks, t, u64::MAX)?;

@@ -3,7 +3,8 @@ ghost use Rattle.std.specs.Prelude.{◌≡◌, ◌<◌, ◌⊎◌, ℕ, length, 
 ghost use Rattle.dk_syntax.specs.declared.Term.{Term as Tree};
 ghost use Rattle.unifier.specs.Outcomes.{Resolves, Sound};
 ghost use Rattle.unifier.specs.Resolving.{Known, resolved_entry};
-ghost use Rattle.unifier.specs.Substitution.{SameInstances, Settled, substituted};
+ghost use Rattle.unifier.specs.Substitution.{SameInstances, Settled};
+ghost use Rattle.dk_syntax.specs.Terms.{substituted};
 
 use crate::bindings::{Bindings, bound_term};
 use crate::equations::Subst;
@@ -21,7 +22,8 @@ fn none_known(alloc: Global, count: usize) -> Result<Vec<Option<Term>>, NoMemory
 }
 
 fn keep(known: &mut [Option<Term>], j: u32, term: Term)
-    ensures { (k : ℕ) (u : Tree) → get_or known.new k None ≡ Some u → (get_or known.old k None ≡ Some u) ⊎ ((k ≡ j) × (u ≡ term)) }
+    ensures { (k : ℕ) (u : Tree) → get_or known.new k None ≡ Some u
+        → (get_or known.old k None ≡ Some u) ⊎ ((k ≡ j) × (u ≡ term)) }
 {
     let place = j as usize;
     if place < known.len() {
@@ -40,7 +42,8 @@ fn resolve(
     fuel: u64,
 ) -> Result<Term, NoMemory>
     requires { Known s.now known.old }
-    ensures term { IfOk result (λ term. (m : ℕ → Tree) → Resolves s.now m → term ≡ substituted m t.now) }
+    ensures term { IfOk result (λ term. (m : ℕ → Tree) → Resolves s.now m
+        → term ≡ substituted m t.now) }
     ensures known { Known s.now known.new }
 {
     if fuel == 0 {
@@ -96,7 +99,8 @@ fn resolve_each(
     fuel: u64,
 ) -> Result<Seq<Term>, NoMemory>
     requires { Known s.now known.old }
-    ensures terms { IfOk result (λ all. (m : ℕ → Tree) → Resolves s.now m → all ≡ map (substituted m) terms.now) }
+    ensures terms { IfOk result (λ all. (m : ℕ → Tree) → Resolves s.now m
+        → all ≡ map (substituted m) terms.now) }
     ensures known { Known s.now known.new }
 {
     let mut all = Seq::from_vec(Vec::new(alloc));
@@ -114,7 +118,8 @@ fn resolve_entry(
     k: u32,
 ) -> Result<Option<Term>, NoMemory>
     requires { Known s.now known.old }
-    ensures entry { IfOk result (λ entry. (m : ℕ → Tree) → Resolves s.now m → entry ≡ resolved_entry m k (get_or s.now k None)) }
+    ensures entry { IfOk result (λ entry. (m : ℕ → Tree) → Resolves s.now m
+        → entry ≡ resolved_entry m k (get_or s.now k None)) }
     ensures known { Known s.now known.new }
 {
     match bound_term(s, k) {
@@ -142,7 +147,8 @@ fn resolve_entries(
 ) -> Result<Seq<Option<Term>>, NoMemory>
     requires { Known s.now known.old }
     ensures length { IfOk result (λ entries. length entries ≡ length s.now) }
-    ensures entries { IfOk result (λ entries. (m : ℕ → Tree) → Resolves s.now m → (k : ℕ) → k < length s.now → get_or entries k None ≡ resolved_entry m k (get_or s.now k None)) }
+    ensures entries { IfOk result (λ entries. (m : ℕ → Tree) → Resolves s.now m → (k : ℕ)
+        → k < length s.now → get_or entries k None ≡ resolved_entry m k (get_or s.now k None)) }
 {
     let mut entries = Seq::from_vec(Vec::new(alloc));
     for k in 0..s.len() {
@@ -156,8 +162,10 @@ fn resolve_entries(
 /// The list in which no bound variable stands in a term and which the same substitutions refine.
 pub fn resolved(alloc: Global, bindings: &Bindings) -> Result<Subst, NoMemory>
     ensures length { IfOk result (λ s. length s.terms ≡ length bindings.now.terms) }
-    ensures settled { IfOk result (λ s. (frozen : ℕ) → Sound frozen bindings.now.terms → Settled frozen s.terms) }
-    ensures same { IfOk result (λ s. (frozen : ℕ) → Sound frozen bindings.now.terms → SameInstances bindings.now.terms s.terms) }
+    ensures settled { IfOk result (λ s. (frozen : ℕ) → Sound frozen bindings.now.terms
+        → Settled frozen s.terms) }
+    ensures same { IfOk result (λ s. (frozen : ℕ) → Sound frozen bindings.now.terms
+        → SameInstances bindings.now.terms s.terms) }
 {
     let s = bindings.terms.as_slice();
     let mut known = none_known(alloc, s.len())?;

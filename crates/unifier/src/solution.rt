@@ -22,9 +22,12 @@ pub fn solve(
     requires { EquationsBelow vars equations.now.pairs }
     ensures length { IfOk result (λ answer. IfSome answer (λ s. length s.terms ≡ vars)) }
     ensures settled { IfOk result (λ answer. IfSome answer (λ s. Settled frozen s.terms)) }
-    ensures solution { IfOk result (λ answer. IfSome answer (λ s. Solves frozen equations.now.pairs (value s.terms))) }
-    ensures general { IfOk result (λ answer. IfSome answer (λ s. (r : ℕ → Tree) → Solves frozen equations.now.pairs r → Refines s.terms r)) }
-    ensures none { IfOk result (λ answer. IfNone answer ((r : ℕ → Tree) → ¬ Solves frozen equations.now.pairs r)) }
+    ensures solution { IfOk result (λ answer. IfSome answer
+        (λ s. Solves frozen equations.now.pairs (value s.terms))) }
+    ensures general { IfOk result (λ answer. IfSome answer
+        (λ s. (r : ℕ → Tree) → Solves frozen equations.now.pairs r → Refines s.terms r)) }
+    ensures none { IfOk result (λ answer. IfNone answer ((r : ℕ → Tree)
+        → ¬ Solves frozen equations.now.pairs r)) }
 {
     let mut bindings = Bindings::unbound(alloc, vars)?;
     for equation in equations.pairs.as_slice() {

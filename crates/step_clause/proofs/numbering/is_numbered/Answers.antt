@@ -1,6 +1,6 @@
 use Rattle.std.proofs.Common.{◌<◌, ◌≤◌, ◌∙◌, ap, arith, get_or, length, refl, subst, sym}
 use Rattle.dk_syntax.specs.declared.Literal.{Literal}
-use Rattle.unifier.specs.Substitution.{EachBelow}
+use Rattle.dk_syntax.specs.Terms.{EachBelow}
 use Rattle.step_clause.proofs.Loops.{all_more, item_at}
 use Rattle.step_clause.proofs.numbering.is_numbered.Goals as goal
 

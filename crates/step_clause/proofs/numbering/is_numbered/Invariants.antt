@@ -1,5 +1,5 @@
 use Rattle.step_clause.proofs.Loops.{AllTo}
-use Rattle.unifier.specs.Substitution.{EachBelow}
+use Rattle.dk_syntax.specs.Terms.{EachBelow}
 use Rattle.step_clause.proofs.numbering.is_numbered.Given as goal
 
 abbrev pub invariant-loop-literal : goal.invariant-loop-literal

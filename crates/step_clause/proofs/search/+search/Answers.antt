@@ -1,7 +1,7 @@
 use Rattle.std.proofs.Common.{◌≡◌, ◌<◌, ◌+◌, ◌*◌, ◌∷◌, Some, refl, ap, sym, ◌∙◌, arith, subst, length, true, map, get_or, slice_get, ◌≤◌}
 use Rattle.std.proofs.lemmas.Grind.{common_steps}
 use Rattle.std.proofs.lemmas.Option.{slice_get_read}
-use Rattle.unifier.specs.Substitution.{EachBelow, substituted}
+use Rattle.dk_syntax.specs.Terms.{EachBelow, substituted}
 use Rattle.step_clause.specs.Justifications.{LiteralsBelow}
 use Rattle.unifier.specs.Outcomes.{Outcome}
 use Rattle.step_clause.proofs.Choices.{below_first, below_rest, below_item, below_after, atoms_found, after_signs, first_found, none_more, none_at_literal, pivot_first, pivot_again, at_some, at_pivot}

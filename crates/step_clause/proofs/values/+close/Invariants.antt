@@ -1,5 +1,5 @@
 use Rattle.std.proofs.Common.{◌≡◌, map, take}
-use Rattle.unifier.specs.Substitution.{substituted}
+use Rattle.dk_syntax.specs.Terms.{substituted}
 use Rattle.step_clause.specs.Justifications.{closed}
 use Rattle.step_clause.proofs.values.+close.Given as goal
 

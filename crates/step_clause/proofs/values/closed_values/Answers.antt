@@ -3,7 +3,8 @@ use Rattle.std.proofs.lemmas.Grind.{common_steps}
 use Rattle.std.proofs.lemmas.List.FromFn.{map-range_with_len_more}
 use Rattle.std.specs.List.{range_with_len}
 use Rattle.dk_syntax.specs.declared.Term.{Term}
-use Rattle.unifier.specs.Substitution.{substituted, value}
+use Rattle.unifier.specs.Substitution.{value}
+use Rattle.dk_syntax.specs.Terms.{substituted}
 use Rattle.step_clause.specs.Justifications.{closed}
 use Rattle.step_clause.proofs.values.closed_values.Goals as goal
 

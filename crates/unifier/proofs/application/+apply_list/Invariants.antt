@@ -1,5 +1,6 @@
 use Rattle.std.proofs.Common.{◌≡◌, map, take}
-use Rattle.unifier.specs.Substitution.{substituted, value}
+use Rattle.unifier.specs.Substitution.{value}
+use Rattle.dk_syntax.specs.Terms.{substituted}
 use Rattle.unifier.proofs.application.+apply_list.Given as goal
 
 abbrev pub invariant-apply_list_to_each-loop-term : goal.invariant-apply_list_to_each-loop-term

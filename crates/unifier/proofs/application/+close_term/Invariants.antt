@@ -1,6 +1,6 @@
 use Rattle.std.proofs.Common.{◌≡◌, map, take}
 use Rattle.unifier.specs.Closing.{closing}
-use Rattle.unifier.specs.Substitution.{substituted}
+use Rattle.dk_syntax.specs.Terms.{substituted}
 use Rattle.unifier.proofs.application.+close_term.Given as goal
 
 abbrev pub invariant-close_terms-loop-term : goal.invariant-close_terms-loop-term

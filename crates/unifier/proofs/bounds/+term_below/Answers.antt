@@ -1,8 +1,7 @@
-use Rattle.std.proofs.Common.{◌≡◌, arith, refl}
+use Rattle.std.proofs.Common.{arith, refl}
 use Rattle.std.proofs.lemmas.Bool.{lt-ltb, ltb-true}
-use Rattle.unifier.proofs.BelowLaws.{all_below, application_below, below_more, variable_below}
-use Rattle.unifier.proofs.BoundLaws.{stands}
-use Rattle.unifier.proofs.ListLaws.{below_args, below_at}
+use Rattle.dk_syntax.proofs.BelowLaws.{all_below, application_below, below_args, below_at, below_more, variable_below}
+use Rattle.dk_syntax.proofs.SubstitutionLaws.{stands}
 use Rattle.unifier.proofs.bounds.+term_below.Goals as goal
 
 pub term_below-returns-in-Var : goal.term_below-returns-in-Var

@@ -1,6 +1,6 @@
-use Rattle.std.proofs.Common.{◌≡◌, ◌<◌, ap, arith, get_or, length, refl, subst, sym, ◌∙◌}
+use Rattle.std.proofs.Common.{ap, arith, get_or, length, refl, subst, sym, ◌∙◌}
 use Rattle.unifier.proofs.BelowLaws.{pairs_more}
-use Rattle.unifier.specs.Substitution.{Below}
+use Rattle.dk_syntax.specs.Terms.{Below}
 use Rattle.unifier.proofs.bounds.equations_below.Goals as goal
 
 pub returns-then-not-term_below : goal.returns-then-not-term_below

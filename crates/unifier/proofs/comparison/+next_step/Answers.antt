@@ -1,10 +1,10 @@
 use Rattle.std.proofs.Common.{◌≡◌, ◌<◌, arith, length, subst}
 use Rattle.std.proofs.lemmas.Grind.{common_steps}
-use Rattle.unifier.proofs.BoundLaws.{stands}
+use Rattle.dk_syntax.proofs.SubstitutionLaws.{same_maps, same_more, stands}
 use Rattle.unifier.proofs.ComparisonLaws.{applications_step, first_variable, item_different, item_needs}
-use Rattle.unifier.proofs.ListLaws.{below_args, below_at, same_maps, same_more}
+use Rattle.dk_syntax.proofs.BelowLaws.{below_args, below_at}
 use Rattle.unifier.specs.Comparing.{NextStep}
-use Rattle.unifier.specs.Substitution.{substituted}
+use Rattle.dk_syntax.specs.Terms.{substituted}
 use Rattle.unifier.proofs.comparison.+next_step.Goals as goal
 
 pub ends_step-variable_step-requires-clause-within : goal.ends_step-variable_step-requires-clause-within

@@ -1,5 +1,5 @@
 use Rattle.std.proofs.Common.{◌+◌, ◌*◌}
-use Rattle.unifier.proofs.ListLaws.{SameTo}
+use Rattle.dk_syntax.proofs.SubstitutionLaws.{SameTo}
 use Rattle.unifier.specs.Comparing.{Follows}
 use Rattle.unifier.proofs.comparison.+next_step.Given as goal
 

@@ -1,10 +1,10 @@
 use Rattle.std.proofs.Common.{◌≡◌, ◌<◌, arith, length, subst, sym}
 use Rattle.std.proofs.lemmas.Grind.{common_steps}
-use Rattle.unifier.proofs.ListLaws.{below_args, below_at}
+use Rattle.dk_syntax.proofs.BelowLaws.{below_args, below_at}
 use Rattle.unifier.proofs.OutcomeLaws.{all_done, all_refuted, all_step, applications_outcome}
 use Rattle.unifier.proofs.Sizes.{args_below, item_below}
 use Rattle.unifier.specs.Outcomes.{Outcome}
-use Rattle.unifier.specs.Substitution.{Below, substituted}
+use Rattle.dk_syntax.specs.Terms.{Below, substituted}
 use Rattle.unifier.proofs.extension.+extend.Goals as goal
 
 pub extend-extend_terms-requires : goal.extend-extend_terms-requires

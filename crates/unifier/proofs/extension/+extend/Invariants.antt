@@ -1,7 +1,7 @@
 use Rattle.std.proofs.Common.{◌≡◌, ◌+◌, ◌*◌, length}
 use denote.Param.Weighed.{most}
 use Rattle.dk_syntax.specs.declared.term.Term.{size-Term}
-use Rattle.unifier.proofs.ListLaws.{SameTo}
+use Rattle.dk_syntax.proofs.SubstitutionLaws.{SameTo}
 use Rattle.unifier.specs.Outcomes.{Extended, Sound}
 use Rattle.unifier.proofs.extension.+extend.Given as goal
 

@@ -1,7 +1,7 @@
 use Rattle.std.proofs.Common.{◌≡◌, ap, length, subst, sym, ◌∙◌}
 use Rattle.unifier.proofs.OutcomeLaws.{growing_bound, growing_equal, growing_refuted}
 use Rattle.unifier.specs.Comparing.{NextStep}
-use Rattle.unifier.specs.Substitution.{Below, substituted}
+use Rattle.dk_syntax.specs.Terms.{Below, substituted}
 use Rattle.unifier.proofs.extension.bind_until_equal.Goals as goal
 
 pub next_step-requires-clause-below_a : goal.next_step-requires-clause-below_a

@@ -1,6 +1,6 @@
 use Rattle.std.proofs.Common.{◌≡◌}
 use Rattle.unifier.proofs.OutcomeLaws.{Growing}
-use Rattle.unifier.specs.Substitution.{substituted}
+use Rattle.dk_syntax.specs.Terms.{substituted}
 use Rattle.unifier.proofs.extension.bind_until_equal.Given as goal
 
 abbrev pub invariant-loop-round : goal.invariant-loop-round

@@ -1,6 +1,8 @@
 use Rattle.std.proofs.Common.{arith, sym, ◌∙◌}
-use Rattle.unifier.proofs.OccurrenceLaws.{in_application, in_variable, leads_along, marked_more, none_more, none_true, one_true}
-use Rattle.unifier.specs.Substitution.{has_variable, substituted}
+use Rattle.unifier.proofs.OccurrenceLaws.{leads_along, marked_more}
+use Rattle.dk_syntax.proofs.SubstitutionLaws.{in_application, in_variable}
+use Rattle.dk_syntax.proofs.ListLaws.{none_more, none_true, one_true}
+use Rattle.dk_syntax.specs.Terms.{has_variable, substituted}
 use Rattle.unifier.proofs.occurrence.+leads_to.Goals as goal
 
 pub leads_to-returns-in_ok-found-in-Var-clause-found : goal.leads_to-returns-in_ok-found-in-Var-clause-found

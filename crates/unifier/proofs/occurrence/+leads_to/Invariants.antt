@@ -1,9 +1,9 @@
 use Rattle.std.proofs.Common.{◌+◌, ◌*◌, ℕ}
 use Rattle.dk_syntax.specs.declared.Term.{Term}
-use Rattle.unifier.proofs.OccurrenceLaws.{NoneTo}
+use Rattle.dk_syntax.proofs.ListLaws.{NoneTo}
 use Rattle.unifier.specs.Comparing.{Marked}
 use Rattle.unifier.specs.Outcomes.{Resolves}
-use Rattle.unifier.specs.Substitution.{has_variable, substituted}
+use Rattle.dk_syntax.specs.Terms.{has_variable, substituted}
 use Rattle.unifier.proofs.occurrence.+leads_to.Given as goal
 
 abbrev pub decreases-leads_to : goal.decreases-leads_to

@@ -2,7 +2,7 @@ use Rattle.std.proofs.Common.{◌≡◌, ◌+◌, ◌*◌, ℕ, map, take}
 use Rattle.dk_syntax.specs.declared.Term.{Term}
 use Rattle.unifier.specs.Outcomes.{Resolves}
 use Rattle.unifier.specs.Resolving.{Known}
-use Rattle.unifier.specs.Substitution.{substituted}
+use Rattle.dk_syntax.specs.Terms.{substituted}
 use Rattle.unifier.proofs.resolution.+resolve.Given as goal
 
 abbrev pub decreases-resolve : goal.decreases-resolve

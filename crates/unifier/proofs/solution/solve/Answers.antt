@@ -1,9 +1,9 @@
 use Rattle.std.proofs.Common.{◌≡◌, None, ap, arith, get_or, length, subst, sym, ◌∙◌}
 use Rattle.std.proofs.lemmas.List.{length-replicate}
-use Rattle.unifier.proofs.BoundLaws.{unbound, unbound_sound}
+use Rattle.unifier.proofs.BoundLaws.{unbound}
 use Rattle.unifier.proofs.SolutionLaws.{SolvesTo, general, solve_refuted, solve_step, solved, unbound_extended}
-use Rattle.unifier.specs.Outcomes.{Extended, Outcome, Sound}
-use Rattle.unifier.specs.Substitution.{Below, substituted}
+use Rattle.unifier.specs.Outcomes.{Extended, Outcome}
+use Rattle.dk_syntax.specs.Terms.{Below, substituted}
 use Rattle.unifier.proofs.solution.solve.Goals as goal
 
 pub loop-equation-init : goal.loop-equation-init

@@ -1,4 +1,4 @@
-use Rattle.std.proofs.Common.{◌≡◌, subst, sym}
+use Rattle.std.proofs.Common.{subst, sym}
 use Rattle.unifier.proofs.BoundLaws.{unbound_refined, unbound_sound}
 use Rattle.unifier.specs.Outcomes.{Sound}
 use Rattle.unifier.specs.Substitution.{Refines}

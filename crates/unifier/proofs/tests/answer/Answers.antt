@@ -1,4 +1,0 @@
-use Rattle.unifier.proofs.tests.answer.Goals as goal
-
-pub solve-requires : goal.solve-requires
-solve-requires c = c.equations_below.ensures.0 c.if-equations_below.true

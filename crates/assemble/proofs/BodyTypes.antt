@@ -8,7 +8,7 @@ use Rattle.lp_term.proofs.SubstitutionLaws.{ext}
 use Rattle.lp_term.proofs.TypingLaws.{retype}
 use Rattle.lp_term.proofs.ConnectiveRules.{arrow_lam, arrow_type, contradict_types, last, prf_type}
 use Rattle.lp_term.proofs.QuantifierRules.{any_con, any_declared, bot_app, rename_arrow, weakened}
-use Rattle.nd_term.specs.Lists.{Each, Entry, Every, each_nil, entry_here, entry_later, every_cons, every_nil}
+use Rattle.dk_syntax.specs.Lists.{Each, Entry, Every, each_nil, entry_here, entry_later, every_cons, every_nil}
 use Rattle.nd_term.specs.Formulas.{Formula, GroundTerm, Literal, eigenvariable, extended, unassigned}
 use Rattle.nd_term.specs.Translation.{literal_type, sentence, translated, translated_ground}
 use Rattle.nd_term.specs.Symbols.{FormulaOver, GroundOver, over_ground_symbol}
@@ -17,7 +17,8 @@ use Rattle.nd_term.specs.Consumers.{lift}
 use Rattle.nd_term.specs.Drinkers.{negative_drinker_type, positive_drinker_type}
 use Rattle.nd_term.specs.Instances.{clause_type}
 use Rattle.nd_term.specs.Bindings.{Bindings}
-use Rattle.nd_term.proofs.ListLaws.{each_at, each_map, each_snoc, entry_end, every_at, every_chosen, every_middle}
+use Rattle.dk_syntax.proofs.ListLaws.{each_map, each_snoc, entry_end, every_at, every_chosen, every_middle}
+use Rattle.nd_term.proofs.ListLaws.{each_at}
 use Rattle.nd_term.proofs.TranslationLaws.{individuals_shift, individuals_under, literal_shift, literal_sort, origin_shift, sentence_shift, sentence_types, translated_ground_shift, translated_ground_types, translated_shift, translated_types, witness_at_shift, witness_shift}
 use Rattle.nd_term.proofs.DrinkerTypes.{drinker_types, negative_drinker_sort, negative_drinker_types, positive_drinker_sort, positive_drinker_types}
 use Rattle.nd_term.proofs.ConsumerTypes.{consumer_types, place_shift}

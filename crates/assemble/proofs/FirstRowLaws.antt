@@ -2,7 +2,7 @@
 use Rattle.std.proofs.Common.{true, false, [], ◌∷◌, refl}
 use Rattle.lp_term.specs.Connectives.{propositions}
 use Rattle.lp_term.specs.Typing.{Declares, declared_here, declared_later}
-use Rattle.nd_term.specs.Lists.{each_cons, each_nil, entry_here, entry_later, every_cons, every_nil}
+use Rattle.dk_syntax.specs.Lists.{each_cons, each_nil, entry_here, entry_later, every_cons, every_nil}
 use Rattle.nd_term.specs.Formulas.{atomic, falsity, ground_symbol, literal, negation, symbol, unassigned}
 use Rattle.nd_term.specs.Symbols.{GroundOver, over_ground_symbol}
 use Rattle.nd_term.specs.ThinTrees.{below_not, fits_atom, fits_not, leaf}

@@ -1,7 +1,7 @@
 -- Laws of lists of instances.
 use Rattle.std.proofs.Common.{◌≡◌, List, [], ◌∷◌, ◌++◌, refl, ap}
 use Rattle.lp_term.specs.LambdaPi.{Term}
-use Rattle.nd_term.specs.Lists.{Each, Every, each_cons, each_nil, every_cons, every_nil}
+use Rattle.dk_syntax.specs.Lists.{Each, Every, each_cons, each_nil, every_cons, every_nil}
 use Rattle.nd_term.specs.Formulas.{Literal}
 use Rattle.assemble.specs.Justification.{Instance, clauses}
 use Rattle.assemble.specs.Places.{last_of}

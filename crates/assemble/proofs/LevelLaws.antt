@@ -5,7 +5,7 @@ use Rattle.lp_term.specs.Names.{any_name}
 use Rattle.lp_term.specs.LambdaPi.{Term, con, lam, shift, var}
 use Rattle.lp_term.specs.ProofTerms.{let_term}
 use Rattle.lp_term.proofs.SubstitutionLaws.{ext}
-use Rattle.nd_term.specs.Lists.{Every, every_cons, every_nil}
+use Rattle.dk_syntax.specs.Lists.{Every, every_cons, every_nil}
 use Rattle.nd_term.specs.Formulas.{Formula, Literal}
 use Rattle.nd_term.specs.Translation.{literal_type}
 use Rattle.nd_term.specs.Consumers.{lift}

@@ -1,6 +1,9 @@
 pub mod BodyTypes
 pub mod BuiltLaws
 pub mod FirstRowLaws
+pub mod GoalViews
 pub mod InstanceLaws
 pub mod LevelLaws
 pub mod ProblemLaws
+pub mod SignatureViews
+pub mod SymbolLaws

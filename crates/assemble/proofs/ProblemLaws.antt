@@ -6,7 +6,7 @@ use Rattle.lp_term.specs.Typing.{Declaration, Declares, declared_here, declared_
 use Rattle.lp_term.proofs.PreludeLaws.{prelude_is_spelled, spelled}
 use Rattle.lp_term.specs.Signature.{prelude_declarations, Extends}
 use Rattle.lp_term.proofs.ConversionLaws.{substitute_arrow}
-use Rattle.nd_term.specs.Lists.{Every, every_cons, every_nil}
+use Rattle.dk_syntax.specs.Lists.{Every, every_cons, every_nil}
 use Rattle.nd_term.specs.Symbols.{function_type}
 use Rattle.assemble.specs.Problem.{ProblemSymbol, declarations_of, result_type, signature_of}
 

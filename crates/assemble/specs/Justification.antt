@@ -2,7 +2,7 @@
 use Rattle.std.specs.Prelude.{ℕ, true, false, List, [], ◌∷◌, ◌++◌, length, ◌≡◌}
 use Rattle.lp_term.specs.Connectives.{propositions}
 use Rattle.lp_term.specs.Typing.{Declaration}
-use Rattle.nd_term.specs.Lists.{Entry, Every}
+use Rattle.dk_syntax.specs.Lists.{Entry, Every}
 use Rattle.nd_term.specs.Formulas.{Formula, GroundTerm, Literal, literal, unassigned}
 use Rattle.nd_term.specs.Symbols.{GroundOver}
 use Rattle.nd_term.specs.Eigenvariables.{Eigenvariable}

@@ -2,7 +2,7 @@
 use Rattle.std.specs.Prelude.{ℕ, List, [], ◌≡◌}
 use Rattle.lp_term.specs.Typing.{HasType}
 use Rattle.lp_term.specs.Scope.{Declared, VariablesBelow}
-use Rattle.nd_term.specs.Lists.{Every}
+use Rattle.dk_syntax.specs.Lists.{Every}
 use Rattle.nd_term.specs.Formulas.{Formula}
 use Rattle.nd_term.specs.Symbols.{FormulaOver}
 use Rattle.nd_term.specs.Eigenvariables.{Eigenvariable}

@@ -3,7 +3,7 @@ use Rattle.std.specs.Prelude.{ℕ, suc, ◌+◌, ◌-◌, ◌<◌, ◌≤◌, co
 use Rattle.lp_term.specs.Names.{any_name}
 use Rattle.lp_term.specs.LambdaPi.{Term, app, con, lam, var}
 use Rattle.lp_term.specs.ProofTerms.{let_term}
-use Rattle.nd_term.specs.Lists.{Every}
+use Rattle.dk_syntax.specs.Lists.{Every}
 use Rattle.nd_term.specs.Formulas.{Formula, Literal}
 use Rattle.nd_term.specs.Translation.{literal_type, sentence}
 use Rattle.nd_term.specs.Instances.{clause_type}

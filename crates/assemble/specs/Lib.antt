@@ -6,3 +6,4 @@ pub mod Levels
 pub mod Origins
 pub mod Places
 pub mod Problem
+pub mod ProblemLaws

@@ -2,7 +2,7 @@
 use Rattle.std.specs.Prelude.{ℕ, List, ◌∷◌, ◌++◌, ◌≡◌}
 use Rattle.lp_term.specs.Connectives.{individuals}
 use Rattle.lp_term.specs.Typing.{Declaration}
-use Rattle.nd_term.specs.Lists.{Entry, Every}
+use Rattle.dk_syntax.specs.Lists.{Entry, Every}
 use Rattle.nd_term.specs.Formulas.{GroundTerm, eigenvariable, ground_applied, ground_symbol}
 use Rattle.nd_term.specs.Symbols.{FormulaOver, GroundOver}
 use Rattle.nd_term.specs.Eigenvariables.{Eigenvariable}

@@ -1,10 +1,17 @@
--- The signature of a development.
-use Rattle.std.specs.Prelude.{ℕ, Bool, true, false, List, [], ◌∷◌, ◌++◌}
+-- The signature of a development, and a problem in the theory.
+use Rattle.std.specs.Prelude.{ℕ, Bool, true, false, List, [], ◌∷◌, ◌++◌, map, Option, Some, None}
+use Rattle.dk_syntax.specs.declared.Kind.{Kind}
+use Rattle.dk_syntax.specs.declared.Kind.TheVariants.{Function, Predicate}
+use Rattle.dk_syntax.specs.declared.Named.{Named}
+use Rattle.dk_syntax.specs.declared.SymKey.{SymKey}
+use Rattle.lp_term.specs.Identifiers.{identifier_of}
 use Rattle.lp_term.specs.LambdaPi.{Term}
 use Rattle.lp_term.specs.Connectives.{individuals, propositions}
 use Rattle.lp_term.specs.Typing.{Declaration}
 use Rattle.lp_term.specs.Signature.{declaration, prelude_declarations}
+use Rattle.nd_term.specs.Formulas.{Formula, falsity}
 use Rattle.nd_term.specs.Symbols.{function_type}
+use Rattle.nd_term.specs.Views.{theory_formula}
 
 -- a symbol of the problem
 pub record ProblemSymbol : Type 0 where
@@ -29,3 +36,27 @@ declarations_of (k ∷ ks) = declaration_of k ∷ declarations_of ks
 -- the prelude, and a constant for each symbol of the problem
 abbrev pub signature_of : List ProblemSymbol → List Declaration
 signature_of ks = prelude_declarations ++ declarations_of ks
+
+-- ---- the program's problems
+
+-- a predicate gives a proposition, a function an individual
+abbrev pub gives_proposition : Kind → Bool
+gives_proposition Function = false
+gives_proposition Predicate = true
+
+-- the same symbol
+abbrev pub theory_symbol : SymKey → ProblemSymbol
+theory_symbol one = record { name = identifier_of one; arity = one.arity; answers = gives_proposition one.kind }
+
+-- the prelude, and a constant for each of the symbols
+abbrev pub problem_signature : List SymKey → List Declaration
+problem_signature symbols = signature_of (map theory_symbol symbols)
+
+-- the conjecture's formula, or falsity where there is none
+abbrev pub theory_conclusion : Option Named → Formula
+theory_conclusion None = falsity
+theory_conclusion (Some conjecture) = theory_formula conjecture.formula
+
+-- the formulas of hypotheses
+abbrev pub theory_formulas : List Named → List Formula
+theory_formulas hypotheses = map (λ hypothesis. theory_formula hypothesis.formula) hypotheses

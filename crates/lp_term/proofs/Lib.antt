@@ -6,7 +6,9 @@ pub mod IntroductionRules
 pub mod PreludeLaws
 pub mod ProblemLaws
 pub mod QuantifierRules
+pub mod ReplaceLaws
 pub mod ScopeLaws
 pub mod SubstitutionLaws
+pub mod TranslationLaws
 pub mod TypingLaws
 pub mod ViewLaws

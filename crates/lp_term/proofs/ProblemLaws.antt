@@ -8,11 +8,11 @@ use Rattle.dk_syntax.specs.declared.Kind.{Kind}
 use Rattle.dk_syntax.specs.declared.Kind.TheVariants.{Function, Predicate}
 use Rattle.dk_syntax.specs.declared.Named.{Named}
 use Rattle.lp_term.specs.Problems.{function_type, implication_of, result_of}
-use Rattle.lp_term.specs.Substitution.{lifted}
+use Rattle.lp_term.specs.Substitution.{lifted, raised}
 use Rattle.lp_term.specs.Terms.{arrow_of, individuals, proof_of, propositions}
 use Rattle.lp_term.specs.Translation.{translated}
 use Rattle.lp_term.specs.declared.lp.Lp.{Lp, Sort, Sym, Var, Pat, App, Lam, Pi, the_lemmas as of_terms}
-use Rattle.lp_term.proofs.ViewLaws.{lp_induction, raised}
+use Rattle.lp_term.proofs.ViewLaws.{lp_induction}
 
 -- ---- raised terms, constructor by constructor
 

@@ -5,7 +5,7 @@ use Rattle.lp_term.specs.LambdaPi.{Term, app, con, lam, pat, pi, rename, shift, 
 use Rattle.lp_term.specs.Connectives.{arrow}
 use Rattle.lp_term.specs.View.{term_at, term_of}
 use Rattle.lp_term.specs.Terms.{arrow_of}
-use Rattle.lp_term.specs.Substitution.{lifted, lifted_at}
+use Rattle.lp_term.specs.Substitution.{lifted, lifted_at, raised}
 use Rattle.lp_term.specs.declared.lp.Lp.{Lp, Lp-F, Sort, Sym, Var, Pat, App, Lam, Pi, fold-roll-Lp, ind-Lp, map-Lp, roll-Lp}
 use Rattle.lp_term.specs.declared.lp.Lp.TheOpen as layer
 use Rattle.lp_term.specs.declared.lp.Lp.TheVariants.{rolls-Sort, rolls-Sym, rolls-Var, rolls-Pat, rolls-App, rolls-Lam, rolls-Pi}
@@ -45,10 +45,6 @@ view_Lam a b = ap term_of (sym (rolls-Lam a b)) ∙ fold-roll-Lp Term term_at (l
 
 pub view_Pi : (a b : Lp) → term_of (Pi a b) ≡ pi (term_of a) (term_of b)
 view_Pi a b = ap term_of (sym (rolls-Pi a b)) ∙ fold-roll-Lp Term term_at (layer.Pi a b)
-
--- the number of a variable after the variables from `bound` on are raised
-abbrev pub raised : ℕ → ℕ → ℕ → ℕ
-raised up bound number = if nat_lt number bound then number else number + up
 
 raised_under : (up bound number : ℕ) → under_renaming (raised up bound) number ≡ raised up (bound + 1) number
 raised_under up bound zero = grind (arith, nat_tests)

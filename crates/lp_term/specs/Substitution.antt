@@ -14,6 +14,10 @@ lifted_at up (layer.App function argument) bound = App (function bound) (argumen
 lifted_at up (layer.Lam domain body) bound = Lam (domain bound) (body (bound + 1))
 lifted_at up (layer.Pi domain body) bound = Pi (domain bound) (body (bound + 1))
 
+-- the number of a variable after those from `bound` on are raised by `up`
+abbrev pub raised : ℕ → ℕ → ℕ → ℕ
+raised up bound number = if nat_lt number bound then number else number + up
+
 -- the term with each variable from `bound` on raised by `up`
 abbrev pub lifted : ℕ → Lp → ℕ → Lp
 lifted up = fold-Lp (ℕ → Lp) (lifted_at up)

@@ -1,6 +1,6 @@
 //! Laws of the theory of terms. Each function's contract is a law; the bodies do nothing.
 ghost use Rattle.lp_term.specs.ConnectiveLaws.{ByContradiction, ConjunctionIntroduced, ConjunctionUsed, DisjunctionLeft, DisjunctionRight, DisjunctionUsed, EquivalenceIntroduced, EquivalenceUsed, ExistentialIntroduced, ExistentialUsed, FalsityUsed, ImplicationIntroduced, ImplicationUsed, NegationIntroduced, NegationUsed, TruthIntroduced, UniversalIntroduced, UniversalUsed};
-ghost use Rattle.lp_term.specs.TheoryLaws.{ConversionSubstitutes, Instantiates, RulesAreOfPrelude, TypedIsBelow, TypedIsDeclared, Weakens};
+ghost use Rattle.lp_term.specs.TheoryLaws.{ConversionSubstitutes, Instantiates, LiftIsTheory, RulesAreOfPrelude, ShiftIsTheory, SubstitutionIsTheory, TranslationIsClosed, TypedIsBelow, TypedIsDeclared, Weakens};
 
 /// Conversion goes by the rules of the prelude's commands.
 pub fn rules_are_of_prelude()
@@ -40,4 +40,16 @@ pub fn quantifiers_have_rules()
     ensures universal_used { UniversalUsed }
     ensures existential_introduced { ExistentialIntroduced }
     ensures existential_used { ExistentialUsed }
+{}
+
+/// What `subst` and `lift` answer is what the theory's substitution and shift give.
+pub fn substitution_is_of_theory()
+    ensures substitution { SubstitutionIsTheory }
+    ensures lift { LiftIsTheory }
+    ensures shift { ShiftIsTheory }
+{}
+
+/// The translation of a closed formula has no free variable.
+pub fn translations_are_closed()
+    ensures { TranslationIsClosed }
 {}

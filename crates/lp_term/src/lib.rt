@@ -8,6 +8,13 @@
 //!
 //! A term's drop is a loop: it takes no memory and a fixed depth of stack. Copies, `lift` and `subst`
 //! are linear in what they read and answer, and take a depth of stack that grows with the term's.
+//!
+//! Laws for the crates above stand in `laws` (each one's contract is a law) and in these files of `proofs/`:
+//! `ViewLaws` (views and induction on terms), `TranslationLaws` (translations at each kind of formula, their views
+//! and their free variables), `ReplaceLaws` and `ProblemLaws` (substitution and raising, the type of `goal`),
+//! `SubstitutionLaws`, `ConversionLaws`, `TypingLaws` and `ScopeLaws` (the theory), `ConnectiveRules`,
+//! `IntroductionRules`, `QuantifierRules` and `PreludeLaws` (the rules of the prelude), `IdentifierLaws` and
+//! `GrammarLaws` (identifiers).
 #![tactic(auto)]
 
 mod build;
@@ -20,8 +27,6 @@ mod problem;
 mod replace;
 mod rules;
 mod start;
-#[cfg(test)]
-mod tests;
 mod translation;
 
 pub use build::{apply, apply_both, arrow, lambda, negation, pattern, product, proof_type, symbol};

@@ -36,7 +36,9 @@ fn put_symbol(alloc: Global, all: &mut Seq<Command>, name: &[u8], of: Lp) -> Res
 }
 
 fn put_types(alloc: Global, all: &mut Seq<Command>) -> Result<(), NoMemory>
-    ensures { OnOk result (all.new ≡ all.old ++ Command.Constant (codes "I") Lp.Sort ∷ Command.Constant (codes "Prop") Lp.Sort ∷ Command.Symbol (codes "Prf") (propositions ⇒ Lp.Sort) ∷ []) }
+    ensures { OnOk result (all.new ≡ all.old
+        ++ Command.Constant (codes "I") Lp.Sort ∷ Command.Constant (codes "Prop") Lp.Sort ∷
+        Command.Symbol (codes "Prf") (propositions ⇒ Lp.Sort) ∷ []) }
 {
     put_constant(alloc, all, b"I", Lp::Sort)?;
     put_constant(alloc, all, b"Prop", Lp::Sort)?;
@@ -57,7 +59,9 @@ fn put_binary(alloc: Global, all: &mut Seq<Command>, name: &[u8]) -> Result<(), 
 }
 
 fn put_connectives(alloc: Global, all: &mut Seq<Command>) -> Result<(), NoMemory>
-    ensures { OnOk result (all.new ≡ all.old ++ Command.Constant (codes "imp") binary_type ∷ Command.Constant (codes "and") binary_type ∷ Command.Constant (codes "or") binary_type ∷ Command.Constant (codes "iff") binary_type ∷ []) }
+    ensures { OnOk result (all.new ≡ all.old
+        ++ Command.Constant (codes "imp") binary_type ∷ Command.Constant (codes "and") binary_type ∷
+        Command.Constant (codes "or") binary_type ∷ Command.Constant (codes "iff") binary_type ∷ []) }
 {
     put_binary(alloc, all, b"imp")?;
     put_binary(alloc, all, b"and")?;
@@ -75,7 +79,9 @@ fn put_not(alloc: Global, all: &mut Seq<Command>) -> Result<(), NoMemory>
 }
 
 fn put_truth_values(alloc: Global, all: &mut Seq<Command>) -> Result<(), NoMemory>
-    ensures { OnOk result (all.new ≡ all.old ++ Command.Constant (codes "top") propositions ∷ Command.Constant (codes "bot") propositions ∷ []) }
+    ensures { OnOk result (all.new ≡ all.old
+        ++ Command.Constant (codes "top") propositions ∷ Command.Constant (codes "bot") propositions
+        ∷ []) }
 {
     let of = symbol(alloc, b"Prop")?;
     put_constant(alloc, all, b"top", of)?;
@@ -94,7 +100,9 @@ fn put_quantifier(alloc: Global, all: &mut Seq<Command>, name: &[u8]) -> Result<
 }
 
 fn put_quantifiers(alloc: Global, all: &mut Seq<Command>) -> Result<(), NoMemory>
-    ensures { OnOk result (all.new ≡ all.old ++ Command.Constant (codes "all") quantifier_type ∷ Command.Constant (codes "ex") quantifier_type ∷ Command.Constant (codes "any") individuals ∷ []) }
+    ensures { OnOk result (all.new ≡ all.old
+        ++ Command.Constant (codes "all") quantifier_type ∷ Command.Constant (codes "ex")
+        quantifier_type ∷ Command.Constant (codes "any") individuals ∷ []) }
 {
     put_quantifier(alloc, all, b"all")?;
     put_quantifier(alloc, all, b"ex")?;
@@ -118,7 +126,8 @@ fn put_rules_of_truth_values(alloc: Global, all: &mut Seq<Command>) -> Result<()
 }
 
 fn put_elimination_rules(alloc: Global, all: &mut Seq<Command>) -> Result<(), NoMemory>
-    ensures { OnOk result (all.new ≡ all.old ++ rule_of_and ∷ rule_of_or ∷ rule_of_ex ∷ rule_of_iff ∷ []) }
+    ensures { OnOk result (all.new ≡ all.old
+        ++ rule_of_and ∷ rule_of_or ∷ rule_of_ex ∷ rule_of_iff ∷ []) }
 {
     put(all, and_rule(alloc)?)?;
     put(all, or_rule(alloc)?)?;

@@ -36,7 +36,8 @@ fn apply_to(alloc: Global, args: &[Term], head: Lp) -> Result<Lp, NoMemory>
 }
 
 fn atom(alloc: Global, predicate: &SymKey, args: &[Term]) -> Result<Lp, NoMemory>
-    ensures { IfOk result (λ lp. lp ≡ apply_each (Lp.Sym (identifier_of predicate.now)) (map translated_term args.now)) }
+    ensures { IfOk result (λ lp. lp ≡ apply_each (Lp.Sym (identifier_of predicate.now))
+        (map translated_term args.now)) }
 {
     let head = Lp::Sym(ident_of(alloc, predicate)?);
     apply_to(alloc, args, head)

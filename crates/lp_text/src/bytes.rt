@@ -23,7 +23,8 @@ pub(crate) fn put_variable(out: &mut Vec<u8>, level: u32) -> Result<(), NoMemory
 
 /// `let v : `, with the variable of that level.
 pub(crate) fn put_let(out: &mut Vec<u8>, level: u32) -> Result<(), NoMemory>
-    ensures { OnOk result (out.new.items ≡ out.old.items ++ (codes "let " ++ (variable_text level ++ codes " : "))) }
+    ensures { OnOk result (out.new.items ≡ out.old.items
+        ++ (codes "let " ++ (variable_text level ++ codes " : "))) }
 {
     put(out, b"let ")?;
     put_variable(out, level)?;
@@ -32,7 +33,8 @@ pub(crate) fn put_let(out: &mut Vec<u8>, level: u32) -> Result<(), NoMemory>
 
 /// `MARK (v : `, with the variable of that level.
 pub(crate) fn put_binder(out: &mut Vec<u8>, mark: &[u8], level: u32) -> Result<(), NoMemory>
-    ensures { OnOk result (out.new.items ≡ out.old.items ++ (mark.now ++ (codes " (" ++ (variable_text level ++ codes " : ")))) }
+    ensures { OnOk result (out.new.items ≡ out.old.items
+        ++ (mark.now ++ (codes " (" ++ (variable_text level ++ codes " : ")))) }
 {
     put(out, mark)?;
     put(out, b" (")?;

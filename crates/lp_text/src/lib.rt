@@ -10,7 +10,5 @@ mod bytes;
 mod command;
 mod piece;
 mod shape;
-#[cfg(test)]
-mod tests;
 
 pub use command::print;

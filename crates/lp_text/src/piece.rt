@@ -22,8 +22,10 @@ enum Piece<'a> {
 }
 
 fn add<'a>(rest: &mut Vec<Piece<'a>>, piece: Piece<'a>) -> Result<(), NoMemory>
-    ensures text { OnOk result (pieces_text rest.new.items ≡ piece_text piece.entry ++ pieces_text rest.old.items) }
-    ensures weight { OnOk result (pieces_weight rest.new.items ≡ piece_weight piece.entry + pieces_weight rest.old.items) }
+    ensures text { OnOk result (pieces_text rest.new.items ≡ piece_text piece.entry
+        ++ pieces_text rest.old.items) }
+    ensures weight { OnOk result (pieces_weight rest.new.items
+        ≡ piece_weight piece.entry + pieces_weight rest.old.items) }
 {
     rest.push(piece)?;
     Ok(())
@@ -36,8 +38,10 @@ fn add_scope<'a>(
     body: &'a Lp,
     level: u32,
 ) -> Result<(), NoMemory>
-    ensures text { OnOk result (pieces_text rest.new.items ≡ term_text domain.now level ++ (codes "), " ++ (term_text body.now (level + 1) ++ pieces_text rest.old.items))) }
-    ensures weight { OnOk result (pieces_weight rest.new.items ≡ term_weight domain.now + 1 + term_weight body.now + pieces_weight rest.old.items) }
+    ensures text { OnOk result (pieces_text rest.new.items ≡ term_text domain.now level
+        ++ (codes "), " ++ (term_text body.now (level + 1) ++ pieces_text rest.old.items))) }
+    ensures weight { OnOk result (pieces_weight rest.new.items
+        ≡ term_weight domain.now + 1 + term_weight body.now + pieces_weight rest.old.items) }
 {
     let inner = level.checked_add(1).ok_or(NoMemory)?;
     add(rest, Piece::Bare(body, inner))?;
@@ -52,8 +56,10 @@ fn add_value<'a>(
     body: &'a Lp,
     level: u32,
 ) -> Result<(), NoMemory>
-    ensures text { OnOk result (pieces_text rest.new.items ≡ term_text value.now level ++ (codes " in\n" ++ (term_text body.now (level + 1) ++ pieces_text rest.old.items))) }
-    ensures weight { OnOk result (pieces_weight rest.new.items ≡ term_weight value.now + 1 + term_weight body.now + pieces_weight rest.old.items) }
+    ensures text { OnOk result (pieces_text rest.new.items ≡ term_text value.now level
+        ++ (codes " in\n" ++ (term_text body.now (level + 1) ++ pieces_text rest.old.items))) }
+    ensures weight { OnOk result (pieces_weight rest.new.items
+        ≡ term_weight value.now + 1 + term_weight body.now + pieces_weight rest.old.items) }
 {
     let inner = level.checked_add(1).ok_or(NoMemory)?;
     add(rest, Piece::Bare(body, inner))?;
@@ -68,8 +74,11 @@ fn put_application<'a>(
     argument: &'a Lp,
     level: u32,
 ) -> Result<(), NoMemory>
-    ensures text { OnOk result (out.new.items ++ pieces_text rest.new.items ≡ out.old.items ++ (application_text (printed function.now).parts (printed function.now) (printed argument.now) level ++ pieces_text rest.old.items)) }
-    ensures weight { OnOk result (pieces_weight rest.new.items < 8 + term_weight function.now + term_weight argument.now + pieces_weight rest.old.items) }
+    ensures text { OnOk result (out.new.items ++ pieces_text rest.new.items ≡ out.old.items
+        ++ (application_text (printed function.now).parts (printed function.now)
+        (printed argument.now) level ++ pieces_text rest.old.items)) }
+    ensures weight { OnOk result (pieces_weight rest.new.items < 8 + term_weight function.now +
+        term_weight argument.now + pieces_weight rest.old.items) }
 {
     if let Lp::Lam(domain, body) = function {
         put_let(out, level)?;
@@ -89,8 +98,11 @@ fn put_product<'a>(
     body: &'a Lp,
     level: u32,
 ) -> Result<(), NoMemory>
-    ensures text { OnOk result (out.new.items ++ pieces_text rest.new.items ≡ out.old.items ++ (product_text ((printed body.now).occurs 0) (printed domain.now) (printed body.now) level ++ pieces_text rest.old.items)) }
-    ensures weight { OnOk result (pieces_weight rest.new.items < 8 + term_weight domain.now + term_weight body.now + pieces_weight rest.old.items) }
+    ensures text { OnOk result (out.new.items ++ pieces_text rest.new.items ≡ out.old.items
+        ++ (product_text ((printed body.now).occurs 0) (printed domain.now) (printed body.now) level
+        ++ pieces_text rest.old.items)) }
+    ensures weight { OnOk result (pieces_weight rest.new.items < 8 + term_weight domain.now +
+        term_weight body.now + pieces_weight rest.old.items) }
 {
     if occurs(body, 0)? {
         put_binder(out, b"\xce\xa0", level)?;
@@ -109,8 +121,10 @@ fn put_root<'a>(
     t: &'a Lp,
     level: u32,
 ) -> Result<(), NoMemory>
-    ensures text { OnOk result (out.new.items ++ pieces_text rest.new.items ≡ out.old.items ++ (term_text t.now level ++ pieces_text rest.old.items)) }
-    ensures weight { OnOk result (pieces_weight rest.new.items < term_weight t.now + pieces_weight rest.old.items) }
+    ensures text { OnOk result (out.new.items ++ pieces_text rest.new.items ≡ out.old.items
+        ++ (term_text t.now level ++ pieces_text rest.old.items)) }
+    ensures weight { OnOk result (pieces_weight rest.new.items < term_weight t.now + pieces_weight
+        rest.old.items) }
 {
     match t {
         Lp::Sort => put(out, b"TYPE"),
@@ -138,8 +152,10 @@ fn put_bracketed<'a>(
     level: u32,
     needed: bool,
 ) -> Result<(), NoMemory>
-    ensures text { OnOk result (out.new.items ++ pieces_text rest.new.items ≡ out.old.items ++ (bracketed needed (term_text t.now level) ++ pieces_text rest.old.items)) }
-    ensures weight { OnOk result (pieces_weight rest.new.items < 3 + term_weight t.now + pieces_weight rest.old.items) }
+    ensures text { OnOk result (out.new.items ++ pieces_text rest.new.items ≡ out.old.items
+        ++ (bracketed needed (term_text t.now level) ++ pieces_text rest.old.items)) }
+    ensures weight { OnOk result (pieces_weight rest.new.items < 3 + term_weight t.now +
+        pieces_weight rest.old.items) }
 {
     if !needed {
         return add(rest, Piece::Bare(t, level));
@@ -154,8 +170,10 @@ fn put_piece<'a>(
     rest: &mut Vec<Piece<'a>>,
     piece: Piece<'a>,
 ) -> Result<(), NoMemory>
-    ensures text { OnOk result (out.new.items ++ pieces_text rest.new.items ≡ out.old.items ++ (piece_text piece.entry ++ pieces_text rest.old.items)) }
-    ensures weight { OnOk result (pieces_weight rest.new.items < piece_weight piece.entry + pieces_weight rest.old.items) }
+    ensures text { OnOk result (out.new.items ++ pieces_text rest.new.items ≡ out.old.items
+        ++ (piece_text piece.entry ++ pieces_text rest.old.items)) }
+    ensures weight { OnOk result (pieces_weight rest.new.items < piece_weight piece.entry +
+        pieces_weight rest.old.items) }
 {
     match piece {
         Piece::Bytes(bytes) => put(out, bytes),

@@ -8,14 +8,15 @@ use Rattle.lp_term.specs.ProofTerms.{let_term}
 use Rattle.lp_term.proofs.TypingLaws.{retype}
 use Rattle.lp_term.proofs.ConnectiveRules.{arrow_app, arrow_lam, arrow_type, bot_con, last, neg_lam, prf_type}
 use Rattle.lp_term.proofs.QuantifierRules.{rename_arrow, weakened}
-use Rattle.nd_term.specs.Lists.{each_cons, each_nil, every_cons, every_nil}
+use Rattle.dk_syntax.specs.Lists.{each_cons, each_nil, every_cons, every_nil}
 use Rattle.nd_term.specs.Formulas.{GroundTerm, Literal, literal}
 use Rattle.nd_term.specs.Translation.{literal_type, translated_ground}
 use Rattle.nd_term.specs.Symbols.{ClauseOver, GroundOver}
 use Rattle.nd_term.specs.Instances.{applied_to, clause_type, Chosen, subsumption_proof, resolution_proof}
 use Rattle.nd_term.specs.Bindings.{Covers, LiteralProofs, covers_cons, covers_nil}
 use Rattle.nd_term.specs.Bindings.{Covers, covers_cons, covers_nil}
-use Rattle.nd_term.proofs.ListLaws.{each_map, each_pick, each_snoc}
+use Rattle.dk_syntax.proofs.ListLaws.{each_map, each_snoc}
+use Rattle.nd_term.proofs.ListLaws.{each_pick}
 use Rattle.nd_term.proofs.TranslationLaws.{Individuals, literal_shift, literal_sort, translated_ground_shift, translated_ground_types}
 
 pub clause_shift : (x : ℕ → Term) (d : List Literal) → shift (clause_type x d) ≡ clause_type (λ k. shift (x k)) d

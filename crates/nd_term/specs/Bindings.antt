@@ -3,7 +3,7 @@ use Rattle.std.specs.Prelude.{ℕ, List, [], ◌∷◌}
 use Rattle.lp_term.specs.LambdaPi.{Term}
 use Rattle.lp_term.specs.Connectives.{individuals, proof_of}
 use Rattle.lp_term.specs.Typing.{Declaration, HasType}
-use Rattle.nd_term.specs.Lists.{Each, Entry}
+use Rattle.dk_syntax.specs.Lists.{Each, Entry}
 use Rattle.nd_term.specs.Formulas.{Literal}
 use Rattle.nd_term.specs.Translation.{literal_type}
 use Rattle.nd_term.specs.Eigenvariables.{Eigenvariable, witness_formula}

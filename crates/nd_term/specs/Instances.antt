@@ -3,7 +3,7 @@ use Rattle.std.specs.Prelude.{ℕ, zero, suc, List, [], ◌∷◌, ◌++◌, map
 use Rattle.lp_term.specs.Names.{any_name}
 use Rattle.lp_term.specs.LambdaPi.{Term, app, con, lam, shift, var}
 use Rattle.lp_term.specs.Connectives.{arrow, bot, proof_of}
-use Rattle.nd_term.specs.Lists.{Each, Entry}
+use Rattle.dk_syntax.specs.Lists.{Each, Entry}
 use Rattle.nd_term.specs.Formulas.{GroundTerm, Literal}
 use Rattle.nd_term.specs.Translation.{literal_type, translated_ground}
 

@@ -5,7 +5,8 @@ pub mod Eigenvariables
 pub mod Formulas
 pub mod Instances
 pub mod Laws
-pub mod Lists
 pub mod Symbols
 pub mod ThinTrees
 pub mod Translation
+pub mod ViewLaws
+pub mod Views

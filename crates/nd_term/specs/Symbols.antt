@@ -3,7 +3,7 @@ use Rattle.std.specs.Prelude.{ℕ, zero, suc, List}
 use Rattle.lp_term.specs.LambdaPi.{Term}
 use Rattle.lp_term.specs.Connectives.{arrow, individuals, propositions}
 use Rattle.lp_term.specs.Typing.{Declaration, Declares}
-use Rattle.nd_term.specs.Lists.{Every}
+use Rattle.dk_syntax.specs.Lists.{Every}
 use Rattle.nd_term.specs.Formulas.{Literal, Formula, FormulaTerm, GroundTerm, applied, atomic, bound, conjunction, disjunction, eigenvariable, equivalence, existential, falsity, ground_applied, ground_symbol, implication, negation, symbol, truth, universal}
 
 -- I → .. → r

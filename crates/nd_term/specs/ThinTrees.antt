@@ -3,7 +3,7 @@ use Rattle.std.specs.Prelude.{ℕ, Bool, true, false, not, List, [], ◌∷◌, 
 use Rattle.lp_term.specs.Names.{any_name}
 use Rattle.lp_term.specs.Connectives.{individuals}
 use Rattle.lp_term.specs.Typing.{Declaration}
-use Rattle.nd_term.specs.Lists.{Entry}
+use Rattle.dk_syntax.specs.Lists.{Entry}
 use Rattle.nd_term.specs.Formulas.{Formula, FormulaTerm, GroundTerm, Literal, atomic, conjunction, disjunction, eigenvariable, equivalence, existential, extended, falsity, ground_by, ground_symbol, implication, literal, negation, truth, universal}
 use Rattle.nd_term.specs.Symbols.{GroundOver}
 use Rattle.nd_term.specs.Eigenvariables.{Eigenvariable, IsOrigin, Unused}

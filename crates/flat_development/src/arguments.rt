@@ -51,7 +51,8 @@ pub fn apply_chosen(
 /// `head` at the variables of all literals in order.
 pub fn apply_in_order(alloc: Global, head: Lp, literals: Literals) -> Result<Lp, NoMemory>
     ensures { let level = literals.first + literals.count in
-        IfOk result (λ t. t ≡ apply_all head (chosen literals.first level (range_with_len 0 literals.count))) }
+        IfOk result (λ t. t ≡ apply_all head
+        (chosen literals.first level (range_with_len 0 literals.count))) }
 {
     let level = literals.level()?;
     let mut all = head;
@@ -70,7 +71,8 @@ pub fn pivot(
     picks: &[u32],
     atom: &Name,
 ) -> Result<Lp, NoMemory>
-    ensures { IfOk result (λ t. t ≡ pivot_term negative literals.first literals.count picks.now atom.now) }
+    ensures { IfOk result (λ t. t ≡ pivot_term negative literals.first literals.count picks.now
+        atom.now) }
 {
     let level = further(literals.level()?, 1)?;
     let body = apply_chosen(
@@ -94,7 +96,8 @@ fn chosen_or_pivot(
 ) -> Result<Lp, NoMemory>
     ensures { let level = literals.first + literals.count in
         let pivot = pivot_term negative literals.first literals.count picks.now literal.now.atom in
-        IfOk result (λ t. t ≡ (if pick == literals.count then pivot else variable level (literals.first + pick))) }
+        IfOk result (λ t. t ≡ (if pick == literals.count then pivot else variable level
+        (literals.first + pick))) }
 {
     if pick == literals.count {
         pivot(alloc, negative, literals, picks, &literal.atom)
@@ -114,7 +117,8 @@ pub fn apply_resolved(
     negative_picks: &[u32],
 ) -> Result<Lp, NoMemory>
     ensures { let pivot = pivot_term negative literals.first literals.count negative_picks.now in
-        IfOk result (λ t. t ≡ apply_all head (chosen_or_pivot literals.first literals.count pivot parent.now positive_picks.now)) }
+        IfOk result (λ t. t ≡ apply_all head
+        (chosen_or_pivot literals.first literals.count pivot parent.now positive_picks.now)) }
 {
     let mut all = head;
     for (place, literal) in parent.iter().enumerate() {

@@ -31,7 +31,8 @@ fn consume_hypothesis(
     level: u32,
     t: Lp,
 ) -> Result<Lp, NoMemory>
-    ensures { IfOk result (λ r. r ≡ consume_hypothesis (slice_get hypotheses.now place) first level t) }
+    ensures { IfOk result (λ r. r ≡ consume_hypothesis (slice_get hypotheses.now place) first level
+        t) }
 {
     match hypotheses.get(place as usize) {
         Some(hypothesis) => consume(alloc, &hypothesis.formula, true, first, level, t),
@@ -64,7 +65,8 @@ fn base_term(
     literals: Literals,
     base: &Base,
 ) -> Result<Lp, NoMemory>
-    ensures { IfOk result (λ t. t ≡ base_term hypotheses.now instances.now literals.first literals.count base.now) }
+    ensures { IfOk result (λ t. t ≡ base_term hypotheses.now instances.now literals.first
+        literals.count base.now) }
 {
     let level = literals.level()?;
     match base {

@@ -22,6 +22,3 @@ mod levels;
 mod terms;
 
 pub use goal::development;
-
-#[cfg(test)]
-mod tests;

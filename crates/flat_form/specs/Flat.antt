@@ -35,12 +35,12 @@ pub record IsFlatProblem (problem : Problem) : Type 0 where
   pub unconjectured : IsNone problem.conjecture
   pub flat : All (λ named. IsTrue (is_flat named.formula)) problem.hyps
 
--- no inference has the status `cth` or `esa`
+-- no inference has the status `cth` or `esa`, and there are at most two parents
 abbrev pub is_plain : StepSource → Bool
 is_plain (Leaf name) = true
-is_plain (Derived cth esa parents) = not cth && not esa
+is_plain (Derived cth esa parents) = not cth && not esa && nat_le (length parents) 2
 
--- at most 10,000 steps, with flat formulas, none of them by `cth` or `esa`
+-- at most 10,000 steps, with flat formulas, none of them by `cth` or `esa` or from more than two parents
 pub record IsFlatTrace (trace : Trace) : Type 0 where
   pub few : length trace.steps ≤ 10000
   pub flat : All (λ step. IsTrue (is_flat step.formula)) trace.steps

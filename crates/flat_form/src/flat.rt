@@ -29,7 +29,8 @@ fn is_falsity(formula: &Formula) -> bool
 
 /// How much room the literals of a clause leave, where there is room for them.
 fn room_after(formula: &Formula, sign: bool, room: u32) -> Option<u32>
-    ensures { result ≡ room_left (is_clause formula.now sign) (length (signed_literals formula.now sign)) room }
+    ensures { result ≡ room_left (is_clause formula.now sign)
+        (length (signed_literals formula.now sign)) room }
 {
     match formula {
         Formula::Atom(symbol, args) => {
@@ -66,7 +67,8 @@ pub fn is_flat_problem(problem: &Problem) -> bool
             .all(|named| is_flat(&named.formula))
 }
 
-/// Whether a trace has at most 10,000 steps, flat formulas, and no inference with `cth` or `esa`.
+/// Whether a trace has at most 10,000 steps, flat formulas, and no inference with `cth` or `esa` or with more
+/// than two parents.
 pub fn is_flat_trace(trace: &Trace) -> bool
     ensures { IsTrue result ↔ IsFlatTrace trace.now }
 {
@@ -81,6 +83,6 @@ fn is_plain(source: &StepSource) -> bool
 {
     match source {
         StepSource::Leaf(_) => true,
-        StepSource::Derived { cth, esa, .. } => !*cth && !*esa,
+        StepSource::Derived { cth, esa, parents } => !*cth && !*esa && parents.len() <= 2,
     }
 }

@@ -16,6 +16,3 @@ mod reading;
 pub use flat::{is_flat, is_flat_problem, is_flat_trace};
 pub use literal::{Literal, copy_literals};
 pub use reading::literals;
-
-#[cfg(test)]
-mod tests;

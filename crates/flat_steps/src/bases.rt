@@ -29,7 +29,9 @@ fn right_verdict(
     requires long { length parents.now ≡ length steps.now }
     requires below { AreParentsBelow (length steps.now) parents.now }
     requires stands { place < length steps.now }
-    ensures { MatchResult result (λ verdict. HasVerdict hypotheses.now steps.now parents.now place verdict × IsRight verdict) (λ fault. IsFaultAt hypotheses.now steps.now parents.now place fault) }
+    ensures { MatchResult result (λ verdict. HasVerdict hypotheses.now steps.now parents.now place
+        verdict × IsRight verdict) (λ fault. IsFaultAt hypotheses.now steps.now parents.now place
+        fault) }
 {
     let verdict = verdict_at(alloc, hypotheses, steps, clauses, parents, place)?;
     match verdict {
@@ -53,7 +55,8 @@ pub fn all_verdicts(
     requires clauses { clauses.now ≡ clauses_of steps.now }
     requires long { length parents.now ≡ length steps.now }
     requires below { AreParentsBelow (length steps.now) parents.now }
-    ensures { MatchResult result (λ verdicts. AreVerdicts hypotheses.now steps.now parents.now verdicts.items) (λ fault. IsFirstFault hypotheses.now steps.now parents.now fault) }
+    ensures { MatchResult result (λ verdicts. AreVerdicts hypotheses.now steps.now parents.now
+        verdicts.items) (λ fault. IsFirstFault hypotheses.now steps.now parents.now fault) }
 {
     let mut verdicts = Vec::new(alloc);
     for place in 0..steps.len() {
@@ -150,8 +153,10 @@ fn base_at(
 ) -> Result<Base, NoMemory>
     requires stands { place < length parents.now }
     requires long { length verdicts.now ≡ length parents.now }
-    requires right { (v : Finding) → slice_get verdicts.now place ≡ Some v → IsRight v × IsParentBelow (length bases.now) v }
-    ensures { IfOk result (λ base. (v : Finding) → slice_get verdicts.now place ≡ Some v → IsBaseBy (parents_at parents.now place) bases.now v base) }
+    requires right { (v : Finding) → slice_get verdicts.now place ≡ Some v → IsRight v
+        × IsParentBelow (length bases.now) v }
+    ensures { IfOk result (λ base. (v : Finding) → slice_get verdicts.now place ≡ Some v
+        → IsBaseBy (parents_at parents.now place) bases.now v base) }
 {
     let places = parents_of(parents, place);
     let base = base_of(alloc, places, bases, &verdicts[place])?;
@@ -171,7 +176,8 @@ pub fn all_bases(
     requires clauses { clauses.now ≡ clauses_of steps.now }
     requires long { length parents.now ≡ length steps.now }
     requires ordered { IsOrderOfPlaces parents.now order.now }
-    ensures { MatchResult result (λ bases. AreBases hypotheses.now steps.now parents.now bases.items) (λ fault. IsFirstFault hypotheses.now steps.now parents.now fault) }
+    ensures { MatchResult result (λ bases. AreBases hypotheses.now steps.now parents.now
+        bases.items) (λ fault. IsFirstFault hypotheses.now steps.now parents.now fault) }
 {
     let verdicts = all_verdicts(alloc, hypotheses, steps, clauses, parents)?;
     let mut bases = blank_bases(alloc, steps.len())?;

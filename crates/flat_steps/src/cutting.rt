@@ -43,8 +43,10 @@ fn extended(
     chosen: Option<u32>,
     after: &Cutting,
 ) -> Result<Cutting, NoMemory>
-    ensures plain { IfOk result (λ cutting. cutting.plain ≡ prepend (first_of_two place chosen) after.now.plain) }
-    ensures cut { IfOk result (λ cutting. cutting.cut ≡ first_of_two (prepend place after.now.cut) (prepend chosen after.now.plain)) }
+    ensures plain { IfOk result (λ cutting. cutting.plain
+        ≡ prepend (first_of_two place chosen) after.now.plain) }
+    ensures cut { IfOk result (λ cutting. cutting.cut
+        ≡ first_of_two (prepend place after.now.cut) (prepend chosen after.now.plain)) }
 {
     let picked = if place.is_some() { place } else { chosen };
     let plain = prepended(alloc, picked, &after.plain)?;
@@ -65,8 +67,10 @@ fn cut_of(
     pivot: &Literal,
     clause: &[Literal],
 ) -> Result<Cutting, NoMemory>
-    ensures plain { IfOk result (λ cutting. IsLeastList (ArePicked target.now pivot.now clause.now) cutting.plain) }
-    ensures cut { IfOk result (λ cutting. IsLeastList (Cuts target.now pivot.now clause.now) cutting.cut) }
+    ensures plain { IfOk result (λ cutting. IsLeastList (ArePicked target.now pivot.now clause.now)
+        cutting.plain) }
+    ensures cut { IfOk result (λ cutting. IsLeastList (Cuts target.now pivot.now clause.now)
+        cutting.cut) }
 {
     match clause.split_first() {
         None => {

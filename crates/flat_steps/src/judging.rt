@@ -66,7 +66,8 @@ fn find_alien(
     parents: &[u32],
 ) -> Result<Option<Name>, NoMemory>
     requires { All (λ parent. parent < length clauses.now) parents.now }
-    ensures { IfOk result (λ alien. alien ≡ first_alien (map (clause_at clauses.now) parents.now) clause.now) }
+    ensures { IfOk result (λ alien. alien
+        ≡ first_alien (map (clause_at clauses.now) parents.now) clause.now) }
 {
     for literal in clause {
         if !parents_have_atom(clauses, parents, &literal.atom) {
@@ -80,7 +81,9 @@ fn find_alien(
 /// The parent, where there is one alone and its formula is the same.
 fn structural_parent(formula: &Formula, steps: &[Step], parents: &[u32]) -> Option<u32>
     requires { All (λ parent. parent < length steps.now) parents.now }
-    ensures { MatchOption result ((parent : ℕ) → IsStructural steps.now formula.now parents.now parent → ⊥) (λ parent. IsStructural steps.now formula.now parents.now parent) }
+    ensures { MatchOption result ((parent : ℕ)
+        → IsStructural steps.now formula.now parents.now parent → ⊥)
+        (λ parent. IsStructural steps.now formula.now parents.now parent) }
 {
     if parents.len() != 1 {
         return None;

@@ -34,6 +34,3 @@ pub use laws::plan_is_one;
 pub use plan::{Base, Instance, PlanFault};
 pub use planning::make_plan;
 pub use verdicts::{Reason, Verdict};
-
-#[cfg(test)]
-mod tests;

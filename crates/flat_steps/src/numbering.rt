@@ -38,7 +38,8 @@ fn numbered_resolution(
     picks: &Seq<u32>,
     others: &Seq<u32>,
 ) -> Result<Base, NoMemory>
-    ensures { IfOk result (λ base. base ≡ numbered list.now (Base.Resolve positive negative picks.now others.now)) }
+    ensures { IfOk result (λ base. base ≡ numbered list.now
+        (Base.Resolve positive negative picks.now others.now)) }
 {
     let positive_picks = copy_picks(alloc, picks)?;
     let negative_picks = copy_picks(alloc, others)?;

@@ -35,7 +35,8 @@ fn pair_on(
     first: &[Literal],
     second: &[Literal],
 ) -> Result<Option<Pair>, NoMemory>
-    ensures { IfOk result (λ answer. IsLeastPair (Resolves target.now atom.now first.now second.now) answer) }
+    ensures { IfOk result (λ answer. IsLeastPair (Resolves target.now atom.now first.now second.now)
+        answer) }
 {
     let affirmed = Literal {
         positive: true,
@@ -103,7 +104,8 @@ fn pair_by(
     first: &[Literal],
     second: &[Literal],
 ) -> Result<Option<Pair>, NoMemory>
-    ensures { IfOk result (λ answer. IsLeastPair (ResolvesAmong (literal.now ∷ []) target.now first.now second.now) answer) }
+    ensures { IfOk result (λ answer. IsLeastPair
+        (ResolvesAmong (literal.now ∷ []) target.now first.now second.now) answer) }
 {
     if !literal.positive {
         return Ok(None);
@@ -119,7 +121,8 @@ pub fn least_pair(
     first: &[Literal],
     second: &[Literal],
 ) -> Result<Option<Pair>, NoMemory>
-    ensures { IfOk result (λ answer. IsLeastPair (ResolvesSomehow target.now first.now second.now) answer) }
+    ensures { IfOk result (λ answer. IsLeastPair (ResolvesSomehow target.now first.now second.now)
+        answer) }
 {
     let mut best = None;
     for literal in first {

@@ -28,7 +28,9 @@ fn least_subsumption(
     parents: &[u32],
 ) -> Result<Option<Candidate>, NoMemory>
     requires { All (λ parent. parent < length clauses.now) parents.now }
-    ensures { IfOk result (λ answer. IsLeastCandidate (λ c. Works target.now (map (clause_at clauses.now) parents.now) c × IsSubsumption c) answer) }
+    ensures { IfOk result (λ answer. IsLeastCandidate
+        (λ c. Works target.now (map (clause_at clauses.now) parents.now) c
+        × IsSubsumption c) answer) }
 {
     for parent in 0..parents.len() {
         let found = subsuming(alloc, target, clause_in(clauses, parents[parent]))?;
@@ -50,7 +52,9 @@ fn least_resolution_by(
 ) -> Result<Option<Candidate>, NoMemory>
     requires within { All (λ parent. parent < length clauses.now) parents.now }
     requires stands { positive < length parents.now }
-    ensures { IfOk result (λ answer. IsLeastCandidate (λ c. Works target.now (map (clause_at clauses.now) parents.now) c × IsResolutionBy positive c) answer) }
+    ensures { IfOk result (λ answer. IsLeastCandidate
+        (λ c. Works target.now (map (clause_at clauses.now) parents.now) c
+        × IsResolutionBy positive c) answer) }
 {
     for negative in 0..parents.len() {
         let found = least_pair(
@@ -80,7 +84,8 @@ fn least_resolution(
     parents: &[u32],
 ) -> Result<Option<Candidate>, NoMemory>
     requires { All (λ parent. parent < length clauses.now) parents.now }
-    ensures { IfOk result (λ answer. IsLeastCandidate (λ c. Works target.now (map (clause_at clauses.now) parents.now) c × IsResolution c) answer) }
+    ensures { IfOk result (λ answer. IsLeastCandidate
+        (λ c. Works target.now (map (clause_at clauses.now) parents.now) c × IsResolution c) answer) }
 {
     for positive in 0..parents.len() {
         let found = least_resolution_by(alloc, target, clauses, parents, positive)?;
@@ -99,7 +104,8 @@ pub fn least_justification(
     parents: &[u32],
 ) -> Result<Option<Candidate>, NoMemory>
     requires { All (λ parent. parent < length clauses.now) parents.now }
-    ensures { IfOk result (λ answer. IsLeastCandidate (Works target.now (map (clause_at clauses.now) parents.now)) answer) }
+    ensures { IfOk result (λ answer. IsLeastCandidate
+        (Works target.now (map (clause_at clauses.now) parents.now)) answer) }
 {
     let found = least_subsumption(alloc, target, clauses, parents)?;
     if let Some(candidate) = found {

@@ -26,7 +26,8 @@ fn is_listed(list: &[u32], step: u32) -> bool
 
 /// Puts visits of the steps that a base names on top of the tasks, the first of them uppermost.
 fn push_needs(tasks: &mut Vec<Task>, base: &Base) -> Result<(), NoMemory>
-    ensures { OnOk result (reverse tasks.new.items ≡ visits_of (needs base.now) ++ reverse tasks.old.items) }
+    ensures { OnOk result (reverse tasks.new.items ≡ visits_of (needs base.now)
+        ++ reverse tasks.old.items) }
 {
     match base {
         Base::Hypothesis(_) => Ok(()),
@@ -59,7 +60,8 @@ fn begin_visit(
     tasks: &mut Vec<Task>,
 ) -> Result<(), NoMemory>
     requires { step < length bases.now }
-    ensures { OnOk result (BeginsVisit bases.now list.now step (reverse tasks.old.items) (reverse tasks.new.items)) }
+    ensures { OnOk result (BeginsVisit bases.now list.now step (reverse tasks.old.items)
+        (reverse tasks.new.items)) }
 {
     if is_listed(list, step) {
         return Ok(());
@@ -77,7 +79,8 @@ fn do_task(
     tasks: &mut Vec<Task>,
 ) -> Result<(), NoMemory>
     requires { AreTasksBelow (length bases.now) (task ∷ []) }
-    ensures { OnOk result (DoesTask bases.now task list.old.items (reverse tasks.old.items) list.new.items (reverse tasks.new.items)) }
+    ensures { OnOk result (DoesTask bases.now task list.old.items (reverse tasks.old.items)
+        list.new.items (reverse tasks.new.items)) }
 {
     match task {
         Task::Visit(step) => begin_visit(bases, step, list.as_slice(), tasks),

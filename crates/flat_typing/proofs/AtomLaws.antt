@@ -27,17 +27,19 @@ use Rattle.flat_steps.specs.Verdicts.{IsInferenceVerdict, IsVerdict, clausal, cl
 use Rattle.flat_development.specs.Clauses.{atom_symbol}
 use Rattle.lp_term.specs.Connectives.{propositions}
 use Rattle.lp_term.specs.Signature.{prelude_declarations}
-use Rattle.nd_term.specs.Lists.{Each, Every, each_cons, each_nil, every_cons, every_nil}
+use Rattle.dk_syntax.specs.Lists.{Each, Every, each_cons, each_nil, every_cons, every_nil}
 use Rattle.nd_term.specs.Symbols.{GroundOver, over_ground_symbol}
 use Rattle.assemble.specs.Justification.{Instance as TheoryInstance}
 use Rattle.flat_typing.specs.Flat.{ground_literal}
 use Rattle.flat_typing.specs.Joined.{IsSame}
-use Rattle.flat_typing.specs.Views.{problem_signature}
+use Rattle.assemble.specs.Problem.{problem_signature}
 use Rattle.flat_typing.proofs.BaseClauses.{clause_of_formula, clause_of_step, hypothesis_clause, step_clause, structural_formula}
 use Rattle.flat_typing.proofs.FlatHypotheses.{AreFlat, every_got}
 use Rattle.flat_typing.proofs.FlatTrees.{FlatTree, flat_atom, flat_false, flat_not, flat_or}
 use Rattle.dk_syntax.proofs.SymbolLaws.{names_same}
-use Rattle.flat_typing.proofs.SymbolLaws.{AreDeclared, IsIn, after_prelude, every_parts, problem_declared}
+use Rattle.nd_term.proofs.ListLaws.{every_parts}
+use Rattle.assemble.proofs.SymbolLaws.{IsIn, after_prelude}
+use Rattle.flat_typing.proofs.SymbolLaws.{AreDeclared, problem_declared}
 
 -- the atoms of a clause have the property
 abbrev HasAtoms : (List ℕ → Type 0) → List Literal → Type 0

@@ -24,25 +24,27 @@ use Rattle.lp_term.specs.declared.Lp.TheVariants.{App, Lam, Sym, Var}
 use Rattle.lp_term.proofs.ViewLaws.{view_App, view_Lam, view_Sym, view_Var}
 use Rattle.nd_term.specs.Formulas.{falsity}
 use Rattle.nd_term.specs.Instances.{clause_type as theory_clause_type}
-use Rattle.nd_term.specs.Lists.{Each, Every, each_cons, each_nil, every_cons, every_nil}
+use Rattle.dk_syntax.specs.Lists.{Each, Every, each_cons, each_nil, every_cons, every_nil}
 use Rattle.nd_term.specs.Symbols.{over_falsity}
-use Rattle.nd_term.proofs.ListLaws.{each_snoc}
+use Rattle.dk_syntax.proofs.ListLaws.{each_snoc}
 use Rattle.assemble.specs.Body.{body_under, goal_body, goal_type as theory_goal_type, lets as theory_lets}
 use Rattle.assemble.specs.Origins.{InTurn}
 use Rattle.assemble.specs.Justification.{Instance as TheoryInstance, Right}
 use Rattle.assemble.specs.Levels.{Inside, at_level, lets_at, place_at}
 use Rattle.assemble.specs.Places.{first_place, last_of}
-use Rattle.assemble.proofs.BodyTypes.{body_typed, goal_prop}
+use Rattle.assemble.proofs.BodyTypes.{body_typed}
+use Rattle.assemble.proofs.GoalViews.{goal_sorted}
 use Rattle.assemble.proofs.ProblemLaws.{signature_extends}
+use Rattle.assemble.proofs.SymbolLaws.{problem_over}
 use Rattle.assemble.proofs.LevelLaws.{lets_levels, place_at_first}
 use Rattle.flat_typing.specs.Joined.{AreRight, IsSame}
 use Rattle.flat_typing.specs.Levels.{variables}
-use Rattle.flat_typing.specs.Views.{problem_signature, theory_formulas, theory_symbol}
-use Rattle.flat_typing.proofs.ClauseViews.{view_clause_type, view_falsity, view_flat, view_goal_type, view_hypothesis_type, view_not, view_proof}
+use Rattle.assemble.specs.Problem.{problem_signature, theory_formulas, theory_symbol}
+use Rattle.lp_term.proofs.TranslationLaws.{view_negation, view_proof}
+use Rattle.flat_typing.proofs.ClauseViews.{view_clause_type, view_falsity, view_flat, view_goal_type, view_hypothesis_type}
 use Rattle.flat_typing.proofs.ConsumerViews.{variables_shift}
-use Rattle.flat_typing.proofs.FlatHypotheses.{AreFlat, flat_hypotheses, flat_sentences}
-use Rattle.flat_typing.proofs.SignatureViews.{view_signature}
-use Rattle.flat_typing.proofs.SymbolLaws.{hypotheses_over}
+use Rattle.flat_typing.proofs.FlatHypotheses.{AreFlat, flat_hypotheses, flat_proper, flat_sentences}
+use Rattle.assemble.proofs.SignatureViews.{view_signature}
 use Rattle.flat_typing.proofs.LetViews.{levels, levels_after, variables_by_levels, view_instance}
 
 view_let : (a t u : Lp) → term_of (let_in a t u) ≡ let_term (term_of a) (term_of t) (term_of u)
@@ -137,7 +139,7 @@ view_contradiction u =
     ∙ ap₂ app (view_App (Sym em_name) program_falsity ∙ ap₂ app (view_Sym em_name) view_falsity) view_falsity)
     (view_Lam (program.proof_of program_falsity) (Var 0) ∙ ap₂ lam (view_proof program_falsity ∙ ap proof_of view_falsity) (view_Var 0)))
     (view_Lam (program.proof_of (program.negation_of program_falsity)) u
-    ∙ ap (λ a. lam a (term_of u)) (view_proof (program.negation_of program_falsity) ∙ ap proof_of (view_not program_falsity ∙ ap neg view_falsity)))
+    ∙ ap (λ a. lam a (term_of u)) (view_proof (program.negation_of program_falsity) ∙ ap proof_of (view_negation program_falsity ∙ ap neg view_falsity)))
 
 -- ---- the body
 
@@ -195,7 +197,7 @@ view_typed problem all list flat has right =
     let hypotheses = problem.hyps in
     let sig = problem_signature problem.symbols in
     let forms = flat_hypotheses problem flat in
-    let typed = body_typed sig (signature_extends (map theory_symbol problem.symbols)) [] (theory_formulas hypotheses) falsity (hypotheses_over problem forms has) over_falsity (none_in_turn sig) right.1 in
+    let typed = body_typed sig (signature_extends (map theory_symbol problem.symbols)) [] (theory_formulas hypotheses) falsity (problem_over problem (flat_proper problem flat has).formed has).0 over_falsity (none_in_turn sig) right.1 in
     subst (λ s. HasType s [] (term_of (body_of hypotheses all)) (term_of (goal_type_of problem))) (sym (view_signature problem.symbols))
     (subst (λ t. HasType sig [] t (term_of (goal_type_of problem))) (sym (view_body hypotheses forms all list right.0 right.1))
     (subst (λ a. HasType sig [] (goal_body (theory_formulas hypotheses) [] falsity list) a) (sym (view_goal problem flat)) typed))
@@ -204,9 +206,4 @@ view_typed problem all list flat has right =
 pub view_goal_sorted : (problem : Problem) → IsFlatProblem problem → HasItsSymbols problem
     → HasType (declarations (prelude ++ constants_of problem.symbols)) [] (term_of (goal_type_of problem)) type
 view_goal_sorted problem flat has =
-    let hypotheses = problem.hyps in
-    let sig = problem_signature problem.symbols in
-    let sorted : HasType sig [] (theory_goal_type (theory_formulas hypotheses) falsity) type =
-    goal_prop sig (signature_extends (map theory_symbol problem.symbols)) (hypotheses_over problem (flat_hypotheses problem flat) has) over_falsity in
-    subst (λ s. HasType s [] (term_of (goal_type_of problem)) type) (sym (view_signature problem.symbols))
-    (subst (λ a. HasType sig [] a type) (sym (view_goal problem flat)) sorted)
+    goal_sorted problem (flat_proper problem flat has)

@@ -25,10 +25,11 @@ use Rattle.assemble.specs.Levels.{at_level}
 use Rattle.assemble.proofs.LevelLaws.{at_deeper}
 use Rattle.flat_typing.specs.Flat.{clause_tree}
 use Rattle.flat_typing.specs.Levels.{variables}
-use Rattle.flat_typing.specs.Views.{theory_formula}
-use Rattle.flat_typing.proofs.ClauseViews.{view_falsity, view_flat, view_proof}
+use Rattle.nd_term.specs.Views.{theory_formula}
+use Rattle.lp_term.proofs.TranslationLaws.{view_proof}
+use Rattle.flat_typing.proofs.ClauseViews.{view_falsity, view_flat}
 use Rattle.flat_typing.proofs.FlatTrees.{FlatTree, flat_atom, flat_false, flat_not, flat_or}
-use Rattle.flat_typing.proofs.FormulaViews.{theory-Atom, theory-False, theory-Not, theory-Or}
+use Rattle.nd_term.proofs.FormulaViews.{theory-Atom, theory-False, theory-Not, theory-Or}
 
 -- ---- variables
 

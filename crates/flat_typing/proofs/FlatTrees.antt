@@ -1,5 +1,6 @@
 -- Flat formulas: `$false`, an atom or its negation, and disjunctions of clauses.
 use Rattle.std.proofs.Common.{◌≡◌, ℕ, Bool, true, false, ◌&&◌, ◌||◌, IsTrue, nat_eq, List, [], ◌∷◌, length, refl, sym, subst, ◌∙◌, ◌⊎◌, inl, inr, rules}
+use Rattle.std.proofs.lemmas.Bool.{and_parts}
 use Rattle.std.proofs.lemmas.Bool.Decides.{Decides-eqb}
 use Rattle.std.specs.Prelude.{nat_le}
 use Rattle.dk_syntax.specs.declared.Formula.{Formula, the_lemmas as of_formulas}
@@ -8,7 +9,9 @@ use Rattle.dk_syntax.specs.declared.Kind.{Kind}
 use Rattle.dk_syntax.specs.declared.Kind.TheVariants.{Function, Predicate}
 use Rattle.dk_syntax.specs.declared.SymKey.{SymKey}
 use Rattle.dk_syntax.specs.declared.Term.{Term}
+use Rattle.dk_syntax.specs.WellFormed.{closed_under, well_formed}
 use Rattle.dk_syntax.proofs.FormulaLaws.{formula_induction}
+use Rattle.dk_syntax.proofs.WellFormedLaws.{closed-Atom, closed-False, closed-Not, closed-Or, well_formed-Atom, well_formed-False, well_formed-Not, well_formed-Or}
 use Rattle.flat_form.specs.Flat.{is_false, is_flat}
 use Rattle.flat_form.specs.Literals.{has_none, is_clause, is_predicate, is_proposition, literals_of}
 use Rattle.flat_form.proofs.ClauseLaws.{clause-Atom, clause-Not, clause-Or}
@@ -20,10 +23,6 @@ pub data FlatTree : Bool → Formula → Type 0 where
   flat_atom : (sign : Bool) (atom : List ℕ) → FlatTree sign (Atom (atom_symbol atom) [])
   flat_not : {a : Formula} → FlatTree false a → FlatTree true (Not a)
   flat_or : {a b : Formula} → FlatTree true a → FlatTree true b → FlatTree true (Or a b)
-
-pub both_true : (b c : Bool) → (b && c) ≡ true → (b ≡ true) × (c ≡ true)
-both_true true c e = (refl, e)
-both_true false c e = absurd cc
 
 one_true : (b c : Bool) → (b || c) ≡ true → (b ≡ true) ⊎ (c ≡ true)
 one_true true c e = inl refl
@@ -44,8 +43,8 @@ symbol_is one a k = λ i. record { name = one.name; arity = sym a i; kind = sym 
 
 atom_is : (sign : Bool) (one : SymKey) (args : List Term) → is_proposition one args ≡ true → FlatTree sign (Atom one args)
 atom_is sign one args e =
-    let parts = both_true (is_predicate one.kind && nat_eq one.arity 0) (has_none args) e in
-    let more = both_true (is_predicate one.kind) (nat_eq one.arity 0) parts.0 in
+    let parts = and_parts (is_predicate one.kind && nat_eq one.arity 0) (has_none args) e in
+    let more = and_parts (is_predicate one.kind) (nat_eq one.arity 0) parts.0 in
     subst (λ s. FlatTree sign (Atom s args)) (symbol_is one ((Decides-eqb one.arity 0).0 more.1) (kind_is one.kind more.0))
     (subst (λ l. FlatTree sign (Atom (atom_symbol one.name) l)) (sym (no_arguments args parts.1)) (flat_atom sign one.name))
 
@@ -94,7 +93,7 @@ not_tree a h false e = none (denied-Not a) e
 
 or_tree : (a b : Formula) → ClauseHasTree a → ClauseHasTree b → ClauseHasTree (Or a b)
 or_tree a b h k true e =
-    let parts = both_true (is_clause a true) (is_clause b true) (sym (clause-Or a b) ∙ e) in flat_or (h true parts.0) (k true parts.1)
+    let parts = and_parts (is_clause a true) (is_clause b true) (sym (clause-Or a b) ∙ e) in flat_or (h true parts.0) (k true parts.1)
 or_tree a b h k false e = none (denied-Or a b) e
 
 clause_tree_of : (f : Formula) → ClauseHasTree f
@@ -163,5 +162,22 @@ false_tree =
 pub flat_tree : (f : Formula) → IsTrue (is_flat f) → FlatTree true f
 flat_tree f e = elim (one_true (is_false f) (is_clause f true && nat_le (length (literals_of f)) 64) e) [
   | inl h ↦ false_tree f h
-  | inr h ↦ clause_tree_of f true (both_true (is_clause f true) (nat_le (length (literals_of f)) 64) h).0
+  | inr h ↦ clause_tree_of f true (and_parts (is_clause f true) (nat_le (length (literals_of f)) 64) h).0
 ]
+
+-- ---- flat formulas are closed and well-formed
+
+both : (b c : Bool) → b ≡ true → c ≡ true → (b && c) ≡ true
+both b c h k = cc
+
+pub flat_closed : {b : Bool} {f : Formula} → FlatTree b f → (level : ℕ) → closed_under f level ≡ true
+flat_closed flat_false level = closed-False level
+flat_closed (flat_atom sign atom) level = closed-Atom (atom_symbol atom) [] level
+flat_closed (flat_not {a = a} h) level = closed-Not a level ∙ flat_closed h level
+flat_closed (flat_or {a = a} {b = b} h k) level = closed-Or a b level ∙ both (closed_under a level) (closed_under b level) (flat_closed h level) (flat_closed k level)
+
+pub flat_formed : {b : Bool} {f : Formula} → FlatTree b f → well_formed f ≡ true
+flat_formed flat_false = well_formed-False
+flat_formed (flat_atom sign atom) = well_formed-Atom (atom_symbol atom) []
+flat_formed (flat_not {a = a} h) = well_formed-Not a ∙ flat_formed h
+flat_formed (flat_or {a = a} {b = b} h k) = well_formed-Or a b ∙ both (well_formed a) (well_formed b) (flat_formed h) (flat_formed k)

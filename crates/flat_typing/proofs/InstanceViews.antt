@@ -16,13 +16,13 @@ use Rattle.lp_term.specs.declared.Lp.TheVariants.{App}
 use Rattle.lp_term.proofs.ViewLaws.{view_App, view_Lam, view_Sym}
 use Rattle.nd_term.specs.Formulas.{GroundTerm, Literal as GroundLiteral, ground_symbol, literal}
 use Rattle.nd_term.specs.Instances.{Chosen, applied_to, at_place, pick, resolution_proof, subsumption_proof}
-use Rattle.nd_term.specs.Lists.{Entry, each_cons, each_nil, entry_here, entry_later}
+use Rattle.dk_syntax.specs.Lists.{Entry, each_cons, each_nil, entry_here, entry_later}
 use Rattle.nd_term.specs.Translation.{translated_ground}
-use Rattle.nd_term.proofs.ListLaws.{entry_end, entry_same}
+use Rattle.dk_syntax.proofs.ListLaws.{entry_end, entry_same}
 use Rattle.assemble.specs.Levels.{at_level}
 use Rattle.flat_typing.specs.Levels.{variables}
 use Rattle.flat_typing.specs.Flat.{ground_literal}
-use Rattle.flat_typing.proofs.ClauseViews.{view_proof}
+use Rattle.lp_term.proofs.TranslationLaws.{view_proof}
 use Rattle.flat_typing.proofs.ConsumerViews.{at_next, variables_shift, view_variable}
 
 pub view_apply_all : (t : Lp) (us : List Lp) → term_of (apply_all t us) ≡ applied_to (term_of t) (map term_of us)

@@ -18,14 +18,15 @@ use Rattle.lp_term.proofs.ViewLaws.{view_Lam}
 use Rattle.nd_term.specs.Formulas.{Formula, GroundTerm, Literal as GroundLiteral, falsity, literal, unassigned}
 use Rattle.nd_term.specs.Consumers.{consumer}
 use Rattle.nd_term.specs.Instances.{Chosen, applied_to, at_place, resolution_proof, subsumption_proof}
-use Rattle.nd_term.specs.Lists.{Each, Entry, each_cons, each_nil, entry_here, entry_later}
+use Rattle.dk_syntax.specs.Lists.{Each, Entry, each_cons, each_nil, entry_here, entry_later}
 use Rattle.assemble.specs.Body.{reason_proof}
 use Rattle.assemble.specs.Justification.{Instance as TheoryInstance, Reason, Works, by_resolve, by_same, by_subsume, clauses, works_resolve, works_same, works_subsume}
 use Rattle.assemble.specs.Levels.{Levels, abstractions_at, at_level, place_at}
 use Rattle.flat_typing.specs.Joined.{IsReasonOf, IsSame}
 use Rattle.flat_typing.specs.Levels.{variables}
 use Rattle.flat_typing.specs.Flat.{clause_tree, ground_literal}
-use Rattle.flat_typing.specs.Views.{theory_formula, theory_formulas}
+use Rattle.nd_term.specs.Views.{theory_formula}
+use Rattle.assemble.specs.Problem.{theory_formulas}
 use Rattle.flat_typing.proofs.ClauseViews.{view_literal_type}
 use Rattle.flat_typing.proofs.ConsumerViews.{view_consume, view_variable}
 use Rattle.flat_typing.proofs.FlatHypotheses.{AreFlat, every_got}

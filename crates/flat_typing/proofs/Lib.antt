@@ -5,12 +5,10 @@ pub mod ClauseViews
 pub mod ConsumerViews
 pub mod FlatHypotheses
 pub mod FlatTrees
-pub mod FormulaViews
 pub mod InstanceViews
 pub mod LetViews
 pub mod PickLaws
 pub mod PlanJoins
 pub mod PlanTyping
-pub mod SignatureViews
 pub mod SymbolLaws
 pub mod VisitLaws

@@ -10,15 +10,15 @@ use Rattle.lp_term.specs.Typing.{Declaration}
 use Rattle.nd_term.specs.Eigenvariables.{Eigenvariable}
 use Rattle.nd_term.specs.Formulas.{Formula as TheoryFormula, Literal as GroundLiteral, unassigned}
 use Rattle.nd_term.specs.Instances.{Chosen}
-use Rattle.nd_term.specs.Lists.{Entry, each_cons, each_nil, entry_here, entry_later}
+use Rattle.dk_syntax.specs.Lists.{Entry, each_cons, each_nil, entry_here, entry_later}
 use Rattle.nd_term.specs.ThinTrees.{Fits, ThinTree, fits_atom, fits_false, fits_not, fits_or}
-use Rattle.nd_term.proofs.ListLaws.{entry_end}
+use Rattle.dk_syntax.proofs.ListLaws.{entry_end}
 use Rattle.flat_development.specs.Clauses.{atom_symbol}
 use Rattle.flat_typing.specs.Flat.{clause_tree, ground_literal}
-use Rattle.flat_typing.specs.Views.{theory_formula}
+use Rattle.nd_term.specs.Views.{theory_formula}
 use Rattle.flat_typing.proofs.ConsumerViews.{tree-Atom, tree-False, tree-Not, tree-Or}
 use Rattle.flat_typing.proofs.FlatTrees.{FlatTree, flat_atom, flat_false, flat_not, flat_or}
-use Rattle.flat_typing.proofs.FormulaViews.{theory-Atom, theory-False, theory-Not, theory-Or}
+use Rattle.nd_term.proofs.FormulaViews.{theory-Atom, theory-False, theory-Not, theory-Or}
 use Rattle.flat_typing.proofs.VisitLaws.{contains_cons}
 
 -- ---- entries

@@ -17,15 +17,17 @@ use Rattle.flat_steps.specs.Plan.{AreBases, AreNeeded, instance_of, needs, numbe
 use Rattle.lp_term.specs.Typing.{Declaration}
 use Rattle.nd_term.specs.Formulas.{Literal as GroundLiteral, falsity, ground_symbol, unassigned}
 use Rattle.nd_term.specs.ThinTrees.{Fits}
-use Rattle.nd_term.specs.Lists.{Each, Entry, Every, each_cons, each_nil, every_cons, every_nil}
+use Rattle.dk_syntax.specs.Lists.{Each, Entry, Every, each_cons, each_nil, every_cons, every_nil}
 use Rattle.assemble.specs.Justification.{Instance as TheoryInstance, Reason, Works, by_leaf, by_resolve, by_same, by_subsume, clauses, works_leaf, works_resolve, works_same, works_subsume}
 use Rattle.assemble.proofs.BuiltLaws.{Builds, builds_cons, builds_nil, works_of}
 use Rattle.flat_development.specs.Clauses.{atom_identifier}
 use Rattle.flat_typing.specs.Joined.{IsReasonOf, IsSame}
 use Rattle.flat_typing.specs.Flat.{clause_tree, ground_literal}
-use Rattle.flat_typing.specs.Views.{problem_signature, theory_formula, theory_formulas}
+use Rattle.nd_term.specs.Views.{theory_formula}
+use Rattle.assemble.specs.Problem.{problem_signature, theory_formulas}
 use Rattle.flat_typing.proofs.BaseClauses.{Follows, clause_of_listed, follows, step_clause}
-use Rattle.flat_typing.proofs.FlatHypotheses.{AreFlat, every_along, every_got}
+use Rattle.nd_term.proofs.ListLaws.{every_along}
+use Rattle.flat_typing.proofs.FlatHypotheses.{AreFlat, every_got}
 use Rattle.flat_typing.proofs.PickLaws.{chosen_picked, chosen_subsumed, clause_fits, entry_contained, entry_map}
 use Rattle.flat_typing.proofs.VisitLaws.{IsInOrder, number_entry, root_last, visits_in_order}
 

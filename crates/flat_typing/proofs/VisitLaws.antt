@@ -4,7 +4,7 @@ use Rattle.std.proofs.lemmas.Bool.Decides.{Decides-eqb}
 use Rattle.std.proofs.lemmas.List.Elements.{Contains-append_left, Contains-push}
 use Rattle.flat_steps.specs.declared.Base.{Base}
 use Rattle.flat_steps.specs.Plan.{Visits, done, fresh, needs, number_in, seen}
-use Rattle.nd_term.specs.Lists.{Entry, Every, entry_here, entry_later, every_cons, every_nil}
+use Rattle.dk_syntax.specs.Lists.{Entry, Every, entry_here, entry_later, every_cons, every_nil}
 
 -- ---- where an element of a list with one more stands
 

@@ -17,11 +17,12 @@ use Rattle.lp_term.specs.Signature.{declarations}
 use Rattle.lp_term.specs.Typing.{HasType}
 use Rattle.lp_term.specs.View.{term_of}
 use Rattle.nd_term.specs.Formulas.{GroundTerm, falsity}
-use Rattle.nd_term.specs.Lists.{Each}
+use Rattle.dk_syntax.specs.Lists.{Each}
 use Rattle.assemble.specs.Body.{goal_body}
 use Rattle.assemble.specs.Justification.{Instance as TheoryInstance, Reason, Right, by_leaf, by_resolve, by_same, by_subsume}
 use Rattle.flat_typing.specs.Flat.{clause_tree, ground_literal}
-use Rattle.flat_typing.specs.Views.{problem_signature, theory_formula, theory_formulas}
+use Rattle.nd_term.specs.Views.{theory_formula}
+use Rattle.assemble.specs.Problem.{problem_signature, theory_formulas}
 
 -- the theory's reason for a base of that clause
 abbrev pub IsReasonOf : List Named → List Literal → Base → Reason → Type 0

@@ -3,4 +3,3 @@ pub mod Joined
 pub mod Laws
 pub mod Levels
 pub mod PlanTypes
-pub mod Views

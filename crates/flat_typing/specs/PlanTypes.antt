@@ -11,7 +11,6 @@ use Rattle.flat_steps.specs.Plan.{IsPlanOf}
 use Rattle.flat_steps.specs.Verdicts.{places_of}
 use Rattle.flat_steps.specs.declared.Instance.{Instance}
 use Rattle.flat_development.specs.Development.{body_of}
-use Rattle.lp_term.specs.LambdaPi.{type}
 use Rattle.lp_term.specs.Prelude.{prelude}
 use Rattle.lp_term.specs.Problems.{constants_of, goal_type_of}
 use Rattle.lp_term.specs.Scope.{Declared, VariablesBelow}
@@ -38,13 +37,3 @@ PlanIsTyped = (problem : Problem) (steps : List Step) (parents : List (List ℕ)
 abbrev pub PlanIsClosed : Type 0
 PlanIsClosed = (problem : Problem) (steps : List Step) (parents : List (List ℕ)) (root : ℕ) (instances : List Instance) → IsPlanned problem steps parents root instances
     → VariablesBelow 0 (term_of (body_of problem.hyps instances)) × Declared (declarations (prelude ++ constants_of problem.symbols)) (term_of (body_of problem.hyps instances))
-
--- nor is one free in the declared type, whose symbols are declared too
-abbrev pub GoalIsClosed : Type 0
-GoalIsClosed = (problem : Problem) → IsFlatProblem problem → HasItsSymbols problem
-    → VariablesBelow 0 (term_of (goal_type_of problem)) × Declared (declarations (prelude ++ constants_of problem.symbols)) (term_of (goal_type_of problem))
-
--- the declared type is a type in that signature
-abbrev pub GoalIsSorted : Type 0
-GoalIsSorted = (problem : Problem) → IsFlatProblem problem → HasItsSymbols problem
-    → HasType (declarations (prelude ++ constants_of problem.symbols)) [] (term_of (goal_type_of problem)) type

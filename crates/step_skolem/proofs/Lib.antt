@@ -1,0 +1,14 @@
+pub mod ByNumber
+pub mod Carried
+pub mod Chains
+pub mod Levels
+pub mod Numbers
+pub mod OneImage
+pub mod OneMap
+pub mod Places
+pub mod PutImages
+pub mod Puts
+pub mod Results
+pub mod Runs
+pub mod SubstitutionLaws
+pub mod ValueSteps

@@ -1,0 +1,8 @@
+pub mod Carrying
+pub mod Chaining
+pub mod Images
+pub mod Laws
+pub mod Levels
+pub mod Rows
+pub mod Substitutions
+pub mod Tight

@@ -1,0 +1,9 @@
+pub mod ComposedRow
+pub mod ImageCounts
+pub mod FullImages
+pub mod Justified
+pub mod MapLaws
+pub mod NumberedLists
+pub mod OneComposed
+pub mod RelaxedFull
+pub mod RelaxedTerms

@@ -1,0 +1,6 @@
+use Rattle.std.proofs.Common.{take}
+use Rattle.step_compose.specs.Composing.{AreJustified}
+use Rattle.step_compose.proofs.targets.justify_all.Given as goal
+
+abbrev pub invariant-loop-k : goal.invariant-loop-k
+invariant-loop-k l = AreJustified (take l.k l.targets.rows) l.lists l.steps

@@ -1,0 +1,16 @@
+pub mod Degrees
+pub mod FragmentLaws
+pub mod Laws
+pub mod Layers
+pub mod LazyTypes
+pub mod NormalTypes
+pub mod Normalisation
+pub mod Objects
+pub mod Opened
+pub mod ParallelReduction
+pub mod Placing
+pub mod Products
+pub mod Reduction
+pub mod Signatures
+pub mod Symbols
+pub mod Words

@@ -1,0 +1,12 @@
+pub mod AcceptanceLaws
+pub mod AnswerLaws
+pub mod AnsweredLaws
+pub mod CompletenessLaws
+pub mod DecisionLaws
+pub mod DevelopmentLaws
+pub mod FrameLaws
+pub mod GoalLaws
+pub mod LazyTypeLaws
+pub mod ProgramLaws
+pub mod StepLaws
+pub mod TypingLaws

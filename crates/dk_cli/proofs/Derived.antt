@@ -16,7 +16,7 @@ use Rattle.tstp_trace.specs.declared.Trace.{Trace}
 use Rattle.dk_cli.specs.Outcome.{IsGraphIn, IsRootIn, formulas_of, graph_refusal, node_of, nodes_of}
 use Rattle.dk_cli.specs.Stages.{IsToldBy, told_by}
 use Rattle.dk_cli.specs.declared.refusal.Refusal.{Refusal}
-use Rattle.dk_cli.proofs.OneAnswer.{within}
+use Rattle.std.proofs.lemmas.Option.{slice_get_within}
 use Rattle.dk_cli.proofs.StageLaws.{found_same, told_found}
 
 module _ (trace : Trace) (graph : Graph) (given : IsGraphIn trace (Ok graph)) where
@@ -42,7 +42,7 @@ module _ (trace : Trace) (graph : Graph) (given : IsGraphIn trace (Ok graph)) wh
   root_stands problem root (None, h, e) = absurd cc
   root_stands problem root (Some found, h, e) =
       let same : root ≡ found = found_same {F = Refusal} root found e in
-      let below : h.0 < length (formulas_of trace) = within (formulas_of trace) h.0 _ h.2.0 in
+      let below : h.0 < length (formulas_of trace) = slice_get_within (formulas_of trace) h.0 _ h.2.0 in
       let long : length (formulas_of trace) ≡ length trace.steps = length-map trace.steps (λ (step : Step). step.formula) in
       let all = graph_long in
       (omega (arith, same, h.1), omega (arith, same, h.1))

@@ -1,6 +1,5 @@
 pub mod Carried
 pub mod Derived
-pub mod OneAnswer
 pub mod OneOutcome
 pub mod OutcomeLaws
 pub mod Proved

@@ -31,7 +31,8 @@ use Rattle.dk_cli.proofs.StageLaws.{IsOne, one_of_two, one_told}
 use Rattle.flat_steps.proofs.PlanLaws.{one_answer}
 use Rattle.tptp_text.proofs.TextLaws.{one_reading}
 use Rattle.flat_steps.specs.Verdicts.{places_of}
-use Rattle.dk_cli.proofs.OneAnswer.{one_graph, one_problem, one_root, one_trace}
+use Rattle.derivation_graph.proofs.AnswerLaws.{one_graph, one_root}
+use Rattle.tstp_trace.proofs.AnswerLaws.{one_problem, one_trace}
 
 -- ---- each stage
 

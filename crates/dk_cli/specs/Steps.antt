@@ -1,13 +1,11 @@
 -- What the parts of a command answer.
-use Rattle.std.specs.Prelude.{◌≡◌, ℕ, ◌<◌, ◌≤◌, ◌⊎◌, List, length, None, Some, Ok, Err, IfOk, IfErr, map, if◌then◌else◌}
+use Rattle.std.specs.Prelude.{◌≡◌, ℕ, ◌<◌, ◌≤◌, ◌⊎◌, Bool, List, length, None, Some, Ok, Err, IfOk, IfErr, map}
 use Rattle.std.specs.declared.option.Option.{Option}
 use Rattle.std.specs.declared.result.Result.{Result}
 use Rattle.std.specs.declared.vec.Vec.{Vec}
 use Rattle.std.specs.declared.alloc.Global.{Global}
 use Rattle.dk_io.specs.Causes.{Rose}
 use Rattle.dk_io.specs.Outside.{Told, IsAbsent, IsFile, Tells}
-use Rattle.dk_syntax.specs.declared.Formula.{Formula}
-use Rattle.dk_syntax.specs.declared.Formula.TheVariants.{False, True}
 use Rattle.flat_form.specs.Flat.{is_false}
 use Rattle.tstp_trace.specs.declared.Trace.{Trace}
 use Rattle.dk_cli.specs.Commands.{Convert}
@@ -39,9 +37,6 @@ pub record ReadsFile (told : Told) (name : List ℕ) (file : File) (before now :
   pub absent : IsAbsent told name → result ≡ Err (ReadFault file)
   pub cause : IfErr result (λ refusal. FileCause told name file before now refusal)
 
--- the formula as far as the root is concerned: `$false`, or another one
-abbrev pub mark_of : Formula → Formula
-mark_of formula = if is_false formula then False else True
-
-abbrev pub marks_of : Trace → List Formula
-marks_of trace = map (λ step. mark_of step.formula) trace.steps
+-- which steps have the formula `$false`
+abbrev pub falsities : Trace → List Bool
+falsities trace = map (λ step. is_false step.formula) trace.steps

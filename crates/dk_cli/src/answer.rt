@@ -52,7 +52,8 @@ fn read_file<I: Inputs>(
     file: File,
 ) -> Result<Vec<u8>, Refusal>
     ensures same { I.told inputs.new ≡ I.told inputs.old }
-    ensures reads { ReadsFile (I.told inputs.old) name.now file (I.faults inputs.old) (I.faults inputs.new) result }
+    ensures reads { ReadsFile (I.told inputs.old) name.now file (I.faults inputs.old)
+        (I.faults inputs.new) result }
 {
     match read_all(alloc, inputs, name) {
         Ok(bytes) => Ok(bytes),
@@ -64,7 +65,8 @@ fn read_file<I: Inputs>(
 
 fn convert<I: Inputs>(alloc: Global, inputs: &mut I, names: Names<'_>) -> Result<Vec<u8>, Refusal>
     ensures same { I.told inputs.new ≡ I.told inputs.old }
-    ensures answers { AnswersCommand (I.told inputs.old) (command_view names.entry) (I.faults inputs.old) (I.faults inputs.new) (answer_view result) }
+    ensures answers { AnswersCommand (I.told inputs.old) (command_view names.entry)
+        (I.faults inputs.old) (I.faults inputs.new) (answer_view result) }
 {
     let problem = read_file(alloc, inputs, names.problem, File::Problem)?;
     let trace = read_file(alloc, inputs, names.trace, File::Trace)?;
@@ -79,7 +81,8 @@ pub fn answer<I: Inputs>(
 ) -> Result<Vec<u8>, Refusal>
     ensures same { I.told inputs.new ≡ I.told inputs.old }
     ensures left { command_of (texts words.now) ≡ None → I.left inputs.new ≡ I.left inputs.old }
-    ensures answers { Answers (I.told inputs.old) (command_of (texts words.now)) (I.faults inputs.old) (I.faults inputs.new) (answer_view result) }
+    ensures answers { Answers (I.told inputs.old) (command_of (texts words.now))
+        (I.faults inputs.old) (I.faults inputs.new) (answer_view result) }
 {
     let Some(names) = command(words) else {
         return Err(Refusal::Words);

@@ -12,7 +12,7 @@ use crate::refusal::{File, ItemFault, Refusal, StepFault};
 use dk_syntax::{Problem, Seq};
 use std::alloc::Global;
 use tptp_text::{Item, TptpFault, read_items};
-use tstp_trace::{ProblemFault, Trace, TraceFault, build_problem, build_trace};
+use tstp_trace::{ProblemFault, Trace, TraceFault, problem_from, trace_from};
 
 fn told_text(file: File, found: Result<Seq<Item>, TptpFault>) -> Result<Seq<Item>, Refusal>
     ensures { result ≡ told_by (text_refusal file) found }
@@ -103,7 +103,7 @@ fn problem_in(alloc: Global, bytes: &[u8]) -> Result<Problem, Refusal>
     ensures { Answered (IsProblemIn bytes.now) result }
 {
     let items = items_in(alloc, bytes, File::Problem)?;
-    told_problem(build_problem(alloc, &items))
+    told_problem(problem_from(alloc, items))
 }
 
 /// The trace that the bytes of its file are.
@@ -112,7 +112,7 @@ fn trace_in(alloc: Global, bytes: &[u8]) -> Result<Trace, Refusal>
     ensures names { IfOk result (λ trace. AreDistinct (names_of trace)) }
 {
     let items = items_in(alloc, bytes, File::Trace)?;
-    told_trace(build_trace(alloc, &items))
+    told_trace(trace_from(alloc, items))
 }
 
 /// The text that the trace in these bytes proves of the problem in those, or the first refusal.

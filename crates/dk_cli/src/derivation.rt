@@ -1,15 +1,15 @@
 //! What a problem and a trace give: a text, or the first refusal.
 ghost use Rattle.std.specs.Prelude.{◌≡◌, map, IfOk};
 ghost use Rattle.derivation_graph.specs.Graphs.{IsGraphOf, HasNoCycle};
-ghost use Rattle.flat_form.specs.Flat.{IsFlatProblem, IsFlatTrace};
+ghost use Rattle.flat_form.specs.Flat.{IsFlatProblem, IsFlatTrace, is_false};
 ghost use Rattle.tstp_trace.specs.Names.{AreDistinct};
 ghost use Rattle.tstp_trace.specs.Traces.{names_of};
 ghost use Rattle.dk_cli.specs.Outcome.{IsBuilt, IsDeveloped, IsGraphIn, IsPlanIn, IsRootIn, IsWritten, barred, graph_refusal, is_conjecture, names_conjecture, node_of, nodes_of, parents_of, plan_refusal};
 ghost use Rattle.dk_cli.specs.Stages.{Answered, told_by};
-ghost use Rattle.dk_cli.specs.Steps.{answer_view, marks_of, mark_of};
+ghost use Rattle.dk_cli.specs.Steps.{answer_view, falsities};
 
 use crate::refusal::{File, Refusal, StepFault};
-use derivation_graph::{Graph, GraphFault, Node, graph_of, root};
+use derivation_graph::{Graph, GraphFault, Node, graph_of, root_by_marks};
 use dk_syntax::{Formula, Name, Named, NoMemory, Problem, Seq};
 use flat_development::development;
 use flat_form::{is_flat_problem, is_flat_trace};
@@ -21,7 +21,7 @@ use tstp_trace::{Step, StepSource, Trace};
 fn copy_names(alloc: Global, names: &[Name]) -> Result<Seq<Name>, NoMemory>
     ensures { IfOk result (λ all. all ≡ names.now) }
 {
-    let mut all = Seq::from_vec(Vec::new(alloc));
+    let mut all = Seq::new(alloc);
     for name in names {
         all.push(name.copy(alloc)?)?;
     }
@@ -33,7 +33,7 @@ fn parents(alloc: Global, source: &StepSource) -> Result<Seq<Name>, NoMemory>
     ensures { IfOk result (λ all. all ≡ parents_of source.now) }
 {
     match source {
-        StepSource::Leaf(_) => Ok(Seq::from_vec(Vec::new(alloc))),
+        StepSource::Leaf(_) => Ok(Seq::new(alloc)),
         StepSource::Derived { parents, .. } => copy_names(alloc, parents.as_slice()),
     }
 }
@@ -50,7 +50,7 @@ fn node(alloc: Global, step: &Step) -> Result<Node, NoMemory>
 fn nodes(alloc: Global, trace: &Trace) -> Result<Seq<Node>, NoMemory>
     ensures { IfOk result (λ all. all ≡ nodes_of trace.now) }
 {
-    let mut all = Seq::from_vec(Vec::new(alloc));
+    let mut all = Seq::new(alloc);
     for step in trace.steps.as_slice() {
         all.push(node(alloc, step)?)?;
     }
@@ -83,22 +83,19 @@ fn graph_in(alloc: Global, trace: &Trace) -> Result<Graph, Refusal>
     told_graph(graph_of(alloc, &nodes))
 }
 
-/// `$false` where the formula is that, else `$true`: the root is looked for by this alone.
-fn mark(formula: &Formula) -> Formula
-    ensures { result ≡ mark_of formula.now }
+fn is_falsity(formula: &Formula) -> bool
+    ensures { result ≡ is_false formula.now }
 {
-    match formula {
-        Formula::False => Formula::False,
-        _ => Formula::True,
-    }
+    matches!(formula, Formula::False)
 }
 
-fn marks(alloc: Global, trace: &Trace) -> Result<Seq<Formula>, NoMemory>
-    ensures { IfOk result (λ all. all ≡ marks_of trace.now) }
+/// Which steps have the formula `$false`: the root is looked for by this alone.
+fn marks(alloc: Global, trace: &Trace) -> Result<Seq<bool>, NoMemory>
+    ensures { IfOk result (λ all. all ≡ falsities trace.now) }
 {
-    let mut all = Seq::from_vec(Vec::new(alloc));
+    let mut all = Seq::new(alloc);
     for step in trace.steps.as_slice() {
-        all.push(mark(&step.formula))?;
+        all.push(is_falsity(&step.formula))?;
     }
     Ok(all)
 }
@@ -116,7 +113,7 @@ fn is_barred(conjecture: &Option<Named>, source: &StepSource) -> bool
 fn bars(alloc: Global, problem: &Problem, trace: &Trace) -> Result<Seq<bool>, NoMemory>
     ensures { IfOk result (λ all. all ≡ barred problem.now trace.now) }
 {
-    let mut all = Seq::from_vec(Vec::new(alloc));
+    let mut all = Seq::new(alloc);
     for step in trace.steps.as_slice() {
         all.push(is_barred(&problem.conjecture, &step.source))?;
     }
@@ -127,12 +124,12 @@ fn bars(alloc: Global, problem: &Problem, trace: &Trace) -> Result<Seq<bool>, No
 fn root_in(alloc: Global, problem: &Problem, trace: &Trace) -> Result<u32, Refusal>
     ensures { Answered (IsRootIn problem.now trace.now) result }
 {
-    let formulas = marks(alloc, trace)?;
+    let marks = marks(alloc, trace)?;
     let barred = bars(alloc, problem, trace)?;
-    if u32::try_from(formulas.len()).is_err() {
+    if u32::try_from(marks.len()).is_err() {
         return Err(Refusal::Memory);
     }
-    match root(&formulas, &barred) {
+    match root_by_marks(&marks, &barred) {
         Some(step) => Ok(step),
         None => Err(Refusal::NoRefutation),
     }

@@ -18,7 +18,8 @@ pub fn numbered_line(
     number: u32,
     why: &str,
 ) -> Result<String, AllocError>
-    ensures { IfOk result (λ line. string_bytes line ≡ front.now ++ decimal number ++ codes ": " ++ why.now) }
+    ensures { IfOk result (λ line. string_bytes line ≡ front.now ++ decimal number ++ codes ": "
+        ++ why.now) }
 {
     let mut digits = Buffer::new();
     let mut line = String::from_str(alloc, front)?;
@@ -73,7 +74,8 @@ fn outside_line(alloc: Global, kind: OutsideKind) -> Result<String, AllocError>
 }
 
 fn unsupported_line(alloc: Global, why: Unsupported) -> Result<String, AllocError>
-    ensures { IfOk result (λ line. string_bytes line ≡ codes "unsupported: " ++ unsupported_word why) }
+    ensures { IfOk result (λ line. string_bytes line ≡ codes "unsupported: "
+        ++ unsupported_word why) }
 {
     let mut line = String::from_str(alloc, "unsupported: ")?;
     line.push_str(unsupported_text(why))?;
@@ -81,14 +83,16 @@ fn unsupported_line(alloc: Global, why: Unsupported) -> Result<String, AllocErro
 }
 
 fn alien_line(alloc: Global, name: &Name) -> Result<String, AllocError>
-    ensures { IfOk result (λ line. string_bytes line ≡ codes "alien symbol: " ++ in_line (printed_name name.now)) }
+    ensures { IfOk result (λ line. string_bytes line ≡ codes "alien symbol: "
+        ++ in_line (printed_name name.now)) }
 {
     let text = name_text(alloc, name).map_err(|_: NoMemory| AllocError)?;
     line_with(alloc, "alien symbol: ", &text)
 }
 
 fn missing_line(alloc: Global, name: &Name) -> Result<String, AllocError>
-    ensures { IfOk result (λ line. string_bytes line ≡ codes "missing parent: " ++ in_line (printed_item_name name.now)) }
+    ensures { IfOk result (λ line. string_bytes line ≡ codes "missing parent: "
+        ++ in_line (printed_item_name name.now)) }
 {
     let text = item_name_text(alloc, name).map_err(|_: NoMemory| AllocError)?;
     line_with(alloc, "missing parent: ", &text)

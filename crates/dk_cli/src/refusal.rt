@@ -138,8 +138,9 @@ impl Refusal {
         }
     }
 
-    /// The line of any refusal.
-    pub fn line(&self, alloc: Global) -> Result<String, AllocError>
+    /// The line of a refusal that has a number: those without one have a fixed line.
+    pub fn numbered_line(&self, alloc: Global) -> Result<String, AllocError>
+        requires { HasNumber self.now }
         ensures { IfOk result (λ line. string_bytes line ≡ line_of self.now) }
     {
         match self {
@@ -153,14 +154,7 @@ impl Refusal {
                 let why = step_fault_line(alloc, fault)?;
                 numbered_line(alloc, "step ", *step, why.as_str())
             }
-            Refusal::ReadFault(file) => file_line(alloc, "read fault: ", *file),
-            Refusal::TooLong(file) => file_line(alloc, "too long: ", *file),
-            Refusal::TooManyItems(file) => file_line(alloc, "too many items: ", *file),
-            Refusal::Unbuilt(file) => file_line(alloc, "not built: ", *file),
-            Refusal::Words => String::from_str(alloc, "words: see --help"),
-            Refusal::NoRefutation => String::from_str(alloc, "no refutation"),
-            Refusal::WriteFault => String::from_str(alloc, "write fault"),
-            Refusal::Memory => String::from_str(alloc, "out of memory"),
+            _ => Err(AllocError),
         }
     }
 }
@@ -176,7 +170,8 @@ fn file_line(alloc: Global, front: &str, file: File) -> Result<String, AllocErro
 
 /// A line that ends in a place of a file.
 fn place_line(alloc: Global, front: &str, file: File, at: u64) -> Result<String, AllocError>
-    ensures { IfOk result (λ line. string_bytes line ≡ front.now ++ file_word file ++ codes " at byte " ++ decimal at) }
+    ensures { IfOk result (λ line. string_bytes line ≡ front.now ++ file_word file
+        ++ codes " at byte " ++ decimal at) }
 {
     let mut number = Buffer::new();
     let mut line = file_line(alloc, front, file)?;

@@ -16,14 +16,16 @@ use std::thread::Threads;
 
 /// Sends the line of a refusal, or that memory ran out.
 pub fn refuse<N: Notes>(alloc: Global, refusal: &Refusal, notes: &mut N) -> Status
-    ensures { (IsRefused refusal.now result (change (N.kept notes.old) (N.kept notes.new) (N.faults notes.old) (N.faults notes.new)))
-        ⊎ (HasNumber refusal.now × IsRefused Refusal.Memory result (change (N.kept notes.old) (N.kept notes.new) (N.faults notes.old) (N.faults notes.new))) }
+    ensures { (IsRefused refusal.now result
+        (change (N.kept notes.old) (N.kept notes.new) (N.faults notes.old) (N.faults notes.new)))
+        ⊎ (HasNumber refusal.now × IsRefused Refusal.Memory result
+        (change (N.kept notes.old) (N.kept notes.new) (N.faults notes.old) (N.faults notes.new))) }
 {
     if let Some(line) = refusal.fixed_line() {
         let _ = notes.line(line);
         return refusal.status();
     }
-    match refusal.line(alloc) {
+    match refusal.numbered_line(alloc) {
         Ok(line) => {
             let _ = notes.line(line.as_str());
             refusal.status()
@@ -67,7 +69,8 @@ fn run_answered<I: Inputs, K: Sink, N: Notes>(
 ) -> Status
     ensures same { I.told inputs.new ≡ I.told inputs.old }
     ensures left { command_of (texts words.now) ≡ None → I.left inputs.new ≡ I.left inputs.old }
-    ensures run { IsRun (I.told inputs.old) (command_of (texts words.now)) (I.faults inputs.old) (I.faults inputs.new) result
+    ensures run { IsRun (I.told inputs.old) (command_of (texts words.now)) (I.faults inputs.old)
+        (I.faults inputs.new) result
         (change (K.kept out.old) (K.kept out.new) (K.faults out.old) (K.faults out.new))
         (change (N.kept notes.old) (N.kept notes.new) (N.faults notes.old) (N.faults notes.new)) }
 {
@@ -88,14 +91,17 @@ pub fn run<R: Threads + Sync, I: Inputs, K: Sink, N: Notes, G: Gate>(
     _gate: &G,
 ) -> Status
     ensures told { I.told inputs.new ≡ I.told inputs.old }
-    ensures run { IsRun (I.told inputs.old) (command_of (texts words.now)) (I.faults inputs.old) (I.faults inputs.new) result
+    ensures run { IsRun (I.told inputs.old) (command_of (texts words.now)) (I.faults inputs.old)
+        (I.faults inputs.new) result
         (change (K.kept out.old) (K.kept out.new) (K.faults out.old) (K.faults out.new))
         (change (N.kept notes.old) (N.kept notes.new) (N.faults notes.old) (N.faults notes.new)) }
 
     // What can come, and what each status says of the sink and of the notes.
     ensures statuses { CanCome result }
-    ensures sink { WritesByStatus result (change (K.kept out.old) (K.kept out.new) (K.faults out.old) (K.faults out.new)) }
-    ensures line { NotesByStatus result (change (N.kept notes.old) (N.kept notes.new) (N.faults notes.old) (N.faults notes.new)) }
+    ensures sink { WritesByStatus result (change (K.kept out.old) (K.kept out.new)
+        (K.faults out.old) (K.faults out.new)) }
+    ensures line { NotesByStatus result (change (N.kept notes.old) (N.kept notes.new)
+        (N.faults notes.old) (N.faults notes.new)) }
 
     // Exactly the words that ask for no command are refused as such, and then nothing is read.
     ensures words { (result ≡ Status.Words) ↔ (command_of (texts words.now) ≡ None) }
@@ -103,9 +109,11 @@ pub fn run<R: Threads + Sync, I: Inputs, K: Sink, N: Notes, G: Gate>(
     ensures words_count { result ≡ Status.Words → I.faults inputs.new ≡ I.faults inputs.old }
 
     // A read fault comes exactly where the inputs' count rose or a file of the command is absent, unless memory ran out.
-    ensures read_only { result ≡ Status.ReadFault → Rose (I.faults inputs.old) (I.faults inputs.new) ⊎ Lacks (I.told inputs.old) (command_of (texts words.now)) }
+    ensures read_only { result ≡ Status.ReadFault → Rose (I.faults inputs.old) (I.faults inputs.new)
+        ⊎ Lacks (I.told inputs.old) (command_of (texts words.now)) }
     ensures read_rose { I.faults inputs.old < I.faults inputs.new → result ≡ Status.ReadFault }
-    ensures read_lacks { Lacks (I.told inputs.old) (command_of (texts words.now)) → (result ≡ Status.ReadFault) ⊎ (result ≡ Status.Memory) }
+    ensures read_lacks { Lacks (I.told inputs.old) (command_of (texts words.now))
+        → (result ≡ Status.ReadFault) ⊎ (result ≡ Status.Memory) }
 
     // A write fault comes exactly where the sink's count rose.
     ensures write_only { result ≡ Status.WriteFault → Rose (K.faults out.old) (K.faults out.new) }
@@ -113,7 +121,8 @@ pub fn run<R: Threads + Sync, I: Inputs, K: Sink, N: Notes, G: Gate>(
 
     // With status 0 what was written is a proof of the problem, by the typing rules.
     ensures proof { result ≡ Status.Done → IfSome (command_of (texts words.now)) (λ command.
-        WritesProof (I.told inputs.old) command (change (K.kept out.old) (K.kept out.new) (K.faults out.old) (K.faults out.new))) }
+        WritesProof (I.told inputs.old) command
+        (change (K.kept out.old) (K.kept out.new) (K.faults out.old) (K.faults out.new))) }
 
     // Each status, text and line comes exactly where it is the outcome's.
     ensures outcome { IfSome (command_of (texts words.now)) (λ command.
@@ -121,7 +130,8 @@ pub fn run<R: Threads + Sync, I: Inputs, K: Sink, N: Notes, G: Gate>(
         (change (K.kept out.old) (K.kept out.new) (K.faults out.old) (K.faults out.new))
         (change (N.kept notes.old) (N.kept notes.new) (N.faults notes.old) (N.faults notes.new))) }
     ensures exactly { IfSome (command_of (texts words.now)) (λ command.
-        CarriesOutEach (I.told inputs.old) command (I.faults inputs.old) (I.faults inputs.new) result
+        CarriesOutEach (I.told inputs.old) command (I.faults inputs.old) (I.faults inputs.new)
+        result
         (change (K.kept out.old) (K.kept out.new) (K.faults out.old) (K.faults out.new))
         (change (N.kept notes.old) (N.kept notes.new) (N.faults notes.old) (N.faults notes.new))) }
 {

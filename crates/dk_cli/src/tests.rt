@@ -220,7 +220,11 @@ fn items_and_steps_at_fault_are_named(rt: HostRuntime) -> Result<(), Fail> {
             "step 1: unsupported: no parent\n",
         ),
         (
-            ["cnf(d,axiom,p,inference(r,[],[a,b,c])).", "", ""],
+            [
+                "cnf(d,axiom,p,inference(r,[],[a,b,c,e,f,g,h,i,j])).",
+                "",
+                "",
+            ],
             "step 1: unsupported: many parents\n",
         ),
         (

@@ -17,4 +17,4 @@ pub returns : goal.returns
 returns c =
     goes_on (IsText file.Problem c.args.bytes.now) (λ items. IsToldBy problem_refusal (IsProblemAnswer items)) c.items_in.result c.in_ok-items.items c.told_problem.result
     c.in_ok-items.was c.items_in.ensures
-    (answered (IsToldBy problem_refusal (IsProblemAnswer c.in_ok-items.items)) c.told_problem.result (c.build_problem.result, c.build_problem.ensures.answer, c.told_problem.ensures))
+    (answered (IsToldBy problem_refusal (IsProblemAnswer c.in_ok-items.items)) c.told_problem.result (c.problem_from.result, c.problem_from.ensures.answer, c.told_problem.ensures))

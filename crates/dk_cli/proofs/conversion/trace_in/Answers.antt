@@ -20,7 +20,7 @@ pub returns-clause-answer : goal.returns-clause-answer
 returns-clause-answer c =
     goes_on (IsText file.Trace c.args.bytes.now) (λ items. IsToldBy trace_refusal (IsTraceAnswer items)) c.items_in.result c.in_ok-items.items c.told_trace.result
     c.in_ok-items.was c.items_in.ensures
-    (answered (IsToldBy trace_refusal (IsTraceAnswer c.in_ok-items.items)) c.told_trace.result (c.build_trace.result, c.build_trace.ensures.answer, c.told_trace.ensures))
+    (answered (IsToldBy trace_refusal (IsTraceAnswer c.in_ok-items.items)) c.told_trace.result (c.trace_from.result, c.trace_from.ensures.answer, c.told_trace.ensures))
 
 pub returns-clause-names : goal.returns-clause-names
-returns-clause-names c = told_keeps (λ (trace : Trace). AreDistinct (names_of trace)) trace_refusal c.build_trace.result c.told_trace.result c.told_trace.ensures c.build_trace.ensures.names
+returns-clause-names c = told_keeps (λ (trace : Trace). AreDistinct (names_of trace)) trace_refusal c.trace_from.result c.told_trace.result c.told_trace.ensures c.trace_from.ensures.names

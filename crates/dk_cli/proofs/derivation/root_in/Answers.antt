@@ -6,10 +6,10 @@ use Rattle.dk_cli.proofs.derivation.root_in.Goals as goal
 
 pub returns-in-Some : goal.returns-in-Some
 returns-in-Some c =
-    let found = rooted c.args.problem.now c.args.trace.now c.in_ok-formulas.formulas c.in_ok-barred.barred c.root.result c.in_ok-formulas.ensures c.in_ok-barred.ensures c.root.ensures in
+    let found = rooted c.args.problem.now c.args.trace.now c.in_ok-marks.marks c.in_ok-barred.barred c.root_by_marks.result c.in_ok-marks.ensures c.in_ok-barred.ensures c.root_by_marks.ensures in
     (Some c.in-Some.step, subst (IsRootAnswer (formulas_of c.args.trace.now) (barred c.args.problem.now c.args.trace.now)) c.in-Some.is found, refl)
 
 pub returns : goal.returns
 returns c =
-    let found = rooted c.args.problem.now c.args.trace.now c.in_ok-formulas.formulas c.in_ok-barred.barred c.root.result c.in_ok-formulas.ensures c.in_ok-barred.ensures c.root.ensures in
+    let found = rooted c.args.problem.now c.args.trace.now c.in_ok-marks.marks c.in_ok-barred.barred c.root_by_marks.result c.in_ok-marks.ensures c.in_ok-barred.ensures c.root_by_marks.ensures in
     (None, subst (IsRootAnswer (formulas_of c.args.trace.now) (barred c.args.problem.now c.args.trace.now)) c.in-None.is found, refl)

@@ -1,10 +1,15 @@
--- Laws of terms whose variables are below a number.
-use Rattle.std.proofs.Common.{◌≡◌, ◌<◌, ◌+◌, ℕ, zero, suc, true, List, [], ◌∷◌, map, get_or, length, arith, subst, sym, ap, ◌∙◌, inl, inr}
-use Rattle.std.proofs.lemmas.Bool.{or_cases, or_left, or_right}
+-- Laws of terms whose variables are below a number, and that these are the terms closed under it.
+use Rattle.std.proofs.Common.{◌≡◌, ◌<◌, ◌+◌, ℕ, zero, suc, true, List, [], ◌∷◌, map, get_or, length, nat_lt, arith, refl, subst, sym, ap, ◌∙◌, inl, inr}
+use Rattle.std.proofs.lemmas.Bool.{and_parts, eq-eqb, eqb-true, or_cases, or_left, or_right}
+use Rattle.std.proofs.lemmas.Bool.Decides.{nat_tests}
 use Rattle.std.proofs.lemmas.List.{get_or_default}
-use Rattle.dk_syntax.proofs.ListLaws.{or_equal}
-use Rattle.dk_syntax.proofs.SubstitutionLaws.{has_variable-Any, has_variable-App, is_variable}
+use Rattle.dk_syntax.proofs.ListLaws.{ForEach, for_each, or_equal}
+use Rattle.dk_syntax.proofs.SubstitutionLaws.{has_variable-Any, has_variable-App, has_variable-Var, is_variable}
+use Rattle.dk_syntax.proofs.TermLaws.{term_induction}
+use Rattle.dk_syntax.proofs.WellFormedLaws.{closed-Any, closed-App, closed-Var}
 use Rattle.dk_syntax.specs.Terms.{Below, EachBelow, any_true, has_variable}
+use Rattle.dk_syntax.specs.WellFormed.{all_true, literal_closed_under, term_closed_under}
+use Rattle.dk_syntax.specs.declared.clause.Literal.{Literal}
 use Rattle.dk_syntax.specs.declared.symbol.SymKey.{SymKey}
 use Rattle.dk_syntax.specs.declared.term.Term.{Term}
 use Rattle.dk_syntax.specs.declared.term.Term.TheVariants.{Any, App, Var}
@@ -43,3 +48,62 @@ all_below n (t ∷ ts) all k h = elim (or_cases (has_variable k t) (any_true (ma
   | inl p ↦ all zero t (omega arith) k p
   | inr p ↦ all_below n ts (λ i d l. all (suc i) d (omega arith)) k p
 ]
+
+-- ---- closed under a number is below it, and the other way round
+
+abbrev IsBelowIfClosed : ℕ → Term → Type 0
+IsBelowIfClosed n t = term_closed_under n t ≡ true → Below n t
+
+abbrev IsClosedIfBelow : ℕ → Term → Type 0
+IsClosedIfBelow n t = Below n t → term_closed_under n t ≡ true
+
+less_if_test : (k n : ℕ) → nat_lt k n ≡ true → k < n
+less_if_test k n h = grind (arith, nat_tests)
+
+test_if_less : (k n : ℕ) → k < n → nat_lt k n ≡ true
+test_if_less k n h = grind (arith, nat_tests)
+
+each_below : (n : ℕ) (ts : List Term) → ForEach (IsBelowIfClosed n) ts → all_true (map (term_closed_under n) ts) ≡ true → EachBelow n ts
+each_below n [] known h k stands = cc
+each_below n (t ∷ ts) known h k stands =
+    let parts = and_parts (term_closed_under n t) (all_true (map (term_closed_under n) ts)) h in
+    elim (or_cases (has_variable k t) (any_true (map (has_variable k) ts)) stands) [
+      | inl p ↦ known.0 parts.0 k p
+      | inr p ↦ each_below n ts known.1 parts.1 k p
+    ]
+
+each_closed : (n : ℕ) (ts : List Term) → ForEach (IsClosedIfBelow n) ts → EachBelow n ts → all_true (map (term_closed_under n) ts) ≡ true
+each_closed n [] known b = refl
+each_closed n (t ∷ ts) known b =
+    let here = known.0 (λ k h. b k (or_left (has_variable k t) (any_true (map (has_variable k) ts)) h)) in
+    let rest = each_closed n ts known.1 (λ k h. b k (or_right (has_variable k t) (any_true (map (has_variable k) ts)) h)) in cc
+
+-- a term that is closed under n has its variables below n
+pub closed_below : (n : ℕ) (t : Term) → term_closed_under n t ≡ true → Below n t
+closed_below n = term_induction (IsBelowIfClosed n)
+    (λ k h j stands.
+    let e : k ≡ j = eqb-true k j (sym (has_variable-Var j k) ∙ stands) in
+    subst (λ i. i < n) e (less_if_test k n (sym (closed-Var k n) ∙ h)))
+    (λ f args known h j stands. each_below n args known (sym (closed-App f args n) ∙ h) j (sym (has_variable-App j f args) ∙ stands))
+    (λ h j stands. let e = has_variable-Any j in cc)
+
+-- a term whose variables are below n is closed under n
+pub below_closed : (n : ℕ) (t : Term) → Below n t → term_closed_under n t ≡ true
+below_closed n = term_induction (IsClosedIfBelow n)
+    (λ k b. closed-Var k n ∙ test_if_less k n (b k (has_variable-Var k k ∙ eq-eqb k k refl)))
+    (λ f args known b. closed-App f args n ∙ each_closed n args known (λ j h. b j (has_variable-App j f args ∙ h)))
+    (λ b. closed-Any n)
+
+-- the same of terms
+pub terms_closed_below : (n : ℕ) (ts : List Term) → all_true (map (term_closed_under n) ts) ≡ true → EachBelow n ts
+terms_closed_below n ts h = each_below n ts (for_each (IsBelowIfClosed n) (closed_below n) ts) h
+
+pub terms_below_closed : (n : ℕ) (ts : List Term) → EachBelow n ts → all_true (map (term_closed_under n) ts) ≡ true
+terms_below_closed n ts b = each_closed n ts (for_each (IsClosedIfBelow n) (below_closed n) ts) b
+
+-- the same of a literal
+pub literal_closed_below : (n : ℕ) (literal : Literal) → literal_closed_under n literal ≡ true → EachBelow n literal.args
+literal_closed_below n literal h = terms_closed_below n literal.args h
+
+pub literal_below_closed : (n : ℕ) (literal : Literal) → EachBelow n literal.args → literal_closed_under n literal ≡ true
+literal_below_closed n literal b = terms_below_closed n literal.args b

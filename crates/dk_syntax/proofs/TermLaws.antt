@@ -1,6 +1,6 @@
 -- Laws of terms: induction, when two terms are one, and what the definitions say of each kind of term.
 use Rattle.std.proofs.Common.{◌≡◌, ◌+◌, ℕ, List, [], ◌∷◌, map, ap, subst, sym, ◌∙◌, rules}
-pub use Rattle.dk_syntax.proofs.ListLaws.{ForEach as Each, for_each as each_of, map-for_each as map-each}
+use Rattle.dk_syntax.proofs.ListLaws.{ForEach, for_each}
 use Rattle.dk_syntax.specs.Depth.{greatest, term_depth_of}
 use Rattle.dk_syntax.specs.Symbols.{joined, term_occurrences}
 use Rattle.dk_syntax.specs.declared.symbol.SymKey.{SymKey}
@@ -10,8 +10,8 @@ use Rattle.dk_syntax.specs.declared.term.Term.TheVariants.{outs-App, outs-Var, r
 
 -- ---- induction
 
-module _ (P : Term → Type 0) (at_var : (number : ℕ) → P (Var number)) (at_app : (symbol : SymKey) (args : List Term) → Each P args → P (App symbol args)) (at_any : P Any) where
-  facts : (known : List ((term : Term) × P term)) → Each P (map (λ one. one.0) known)
+module _ (P : Term → Type 0) (at_var : (number : ℕ) → P (Var number)) (at_app : (symbol : SymKey) (args : List Term) → ForEach P args → P (App symbol args)) (at_any : P Any) where
+  facts : (known : List ((term : Term) × P term)) → ForEach P (map (λ one. one.0) known)
   facts [] = tt
   facts (one ∷ rest) = (one.1, facts rest)
 
@@ -23,8 +23,8 @@ module _ (P : Term → Type 0) (at_var : (number : ℕ) → P (Var number)) (at_
   pub term_induction : (term : Term) → P term
   term_induction = ind-Term P (λ x y e. subst (λ z. P (roll-Term z)) e (at_layer y))
 
-  pub terms_induction : (terms : List Term) → Each P terms
-  terms_induction = each_of P term_induction
+  pub terms_induction : (terms : List Term) → ForEach P terms
+  terms_induction = for_each P term_induction
 
 -- ---- when two terms are one
 

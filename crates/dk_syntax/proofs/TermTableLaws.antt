@@ -1,5 +1,5 @@
 -- Laws of tables of terms, for those who put terms in.
-use Rattle.std.proofs.Common.{◌≡◌, ◌<◌, ◌≤◌, ◌+◌, ℕ, List, [], ◌∷◌, ◌++◌, length, length-append, arith, refl, sym, ap, subst, ◌∙◌, inl, inr}
+use Rattle.std.proofs.Common.{◌≡◌, ◌<◌, ◌≤◌, ◌+◌, ℕ, List, [], ◌∷◌, ◌++◌, length, length-append, arith, ap, subst, ◌∙◌, inl, inr}
 use Rattle.std.proofs.lemmas.List.{get_or_append_left, get_or-append-add}
 use Rattle.dk_syntax.specs.TermTables.{IsNumbered, term_of}
 use Rattle.dk_syntax.specs.declared.term.Term.{Term}

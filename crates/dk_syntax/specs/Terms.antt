@@ -1,6 +1,7 @@
--- The algebra of terms: substitutions and the variables of a term.
+-- The algebra of terms: substitutions, in literals too, and the variables of a term.
 use Rattle.std.specs.Prelude.{ℕ, ◌≡◌, ◌<◌, nat_eq, Bool, true, false, List, map, ◌+◌, sum}
 pub use Rattle.dk_syntax.specs.Lists.{any_true}
+use Rattle.dk_syntax.specs.declared.clause.Literal.{Literal}
 use Rattle.dk_syntax.specs.declared.term.Term.{Term, Term-F, fold-Term}
 use Rattle.dk_syntax.specs.declared.term.Term.TheOpen as term
 use Rattle.dk_syntax.specs.declared.term.Term.TheVariants.{Any, App}
@@ -14,6 +15,10 @@ substituted_at r term.Any = Any
 -- the term with r k for each variable k
 abbrev pub substituted : (ℕ → Term) → Term → Term
 substituted r = fold-Term Term (substituted_at r)
+
+-- the literal with r k for each variable k
+abbrev pub instance : (ℕ → Term) → Literal → Literal
+instance r literal = record literal { args = map (substituted r) literal.args }
 
 -- whether variable k stands in a term, from the same of its arguments
 abbrev pub has_variable_at : ℕ → Term-F Bool → Bool

@@ -13,9 +13,10 @@
 //!
 //! Laws for the crates above stand in `proofs/TermLaws` and `proofs/FormulaLaws` (induction, and what
 //! the definitions say of each kind of tree), `proofs/WellFormedLaws` (what it is to be closed,
-//! well-formed and without `Any`), `proofs/SubstitutionLaws` and `proofs/BelowLaws` (substitution and the
-//! variables of terms), `proofs/SymbolLaws` and `proofs/FirstOccurrences` (symbols and lists of them) and
-//! `proofs/ListLaws` (lists); for those who put terms in a table, in `proofs/TermTableLaws`.
+//! well-formed and without `Any`), `proofs/SubstitutionLaws` and `proofs/BelowLaws` (substitution, the
+//! variables of terms, and that those closed under a number are those below it), `proofs/SymbolLaws` and
+//! `proofs/FirstOccurrences` (symbols and lists of them) and `proofs/ListLaws` (lists); for those who put
+//! terms in a table, in `proofs/TermTableLaws`.
 #![tactic(auto)]
 
 mod alpha;

@@ -1,7 +1,8 @@
 -- The depth that is counted is that of the formula that is meant.
 use Rattle.std.proofs.Common.{◌≡◌, ℕ, ◌+◌, max, List, [], ◌∷◌, ◌++◌, map, length, Option, Some, None, if◌then◌else◌, refl, sym, ap, ap₂, ◌∙◌, Bool, true, false, arith}
 use Rattle.dk_syntax.proofs.FormulaLaws as dk
-use Rattle.dk_syntax.proofs.TermLaws.{Each, depth-Any, depth-App, depth-Var}
+use Rattle.dk_syntax.proofs.ListLaws.{ForEach}
+use Rattle.dk_syntax.proofs.TermLaws.{depth-Any, depth-App, depth-Var}
 use Rattle.dk_syntax.specs.Depth.{formula_depth, greatest, term_depth_of}
 use Rattle.dk_syntax.specs.declared.Formula.{Formula}
 use Rattle.dk_syntax.specs.declared.Formula.TheVariants as formula
@@ -30,7 +31,7 @@ depth-variable : (o : Option ℕ) → term_depth_of (variable o) ≡ 1
 depth-variable None = depth-Any
 depth-variable (Some k) = depth-Var k
 
-depths-each : (xs : List RawTerm) (bound : Names) → Each TermDepth xs → greatest (map term_depth_of (each bound (map term_of xs))) ≡ greatest (map raw_term_depth xs)
+depths-each : (xs : List RawTerm) (bound : Names) → ForEach TermDepth xs → greatest (map term_depth_of (each bound (map term_of xs))) ≡ greatest (map raw_term_depth xs)
 depths-each [] bound known = refl
 depths-each (x ∷ xs) bound known = ap₂ max (known.0 bound) (depths-each xs bound known.1)
 
@@ -74,7 +75,7 @@ depth-connected connective.Differs a b = dk.depth-Not (formula.Iff a b) ∙ (let
 depth-connected connective.Nor a b = dk.depth-Not (formula.Or a b) ∙ (let h = dk.depth-Or a b in omega arith)
 depth-connected connective.Nand a b = dk.depth-Not (formula.And a b) ∙ (let h = dk.depth-And a b in omega arith)
 
-depth-chained : (l : Link) (fs : List Raw) (bound : Names) → Each FormulaDepth fs → (f : Formula) (d : ℕ) → formula_depth f ≡ d → formula_depth (chained l f (each bound (map formula_of fs))) ≡ chain_depth d (map raw_depth fs)
+depth-chained : (l : Link) (fs : List Raw) (bound : Names) → ForEach FormulaDepth fs → (f : Formula) (d : ℕ) → formula_depth f ≡ d → formula_depth (chained l f (each bound (map formula_of fs))) ≡ chain_depth d (map raw_depth fs)
 depth-chained l [] bound known f d e = e
 depth-chained l (g ∷ gs) bound known f d e =
     depth-chained l gs bound known.1 (linked l f (formula_of g bound)) (1 + max d (raw_depth g)) (depth-linked l f (formula_of g bound) ∙ ap₂ (λ m n. 1 + max m n) e (known.0 bound))
@@ -83,7 +84,7 @@ depth-if : (b : Bool) → formula_depth (if b then formula.True else formula.Fal
 depth-if true = dk.depth-True
 depth-if false = dk.depth-False
 
-all_terms : (args : List RawTerm) → Each TermDepth args
+all_terms : (args : List RawTerm) → ForEach TermDepth args
 all_terms [] = tt
 all_terms (x ∷ xs) = (depth-term_of x, all_terms xs)
 

@@ -2,7 +2,7 @@
 use Rattle.std.proofs.Common.{◌≡◌, ℕ, suc, ◌+◌, lt-ltb, eq-eqb, Bool, true, false, ◌&&◌, if◌then◌else◌, List, [], ◌∷◌, ◌++◌, append_assoc, append-nil, map, length, length-append, Option, Some, None, refl, sym, ap, ap₂, ◌∙◌, arith}
 use Rattle.std.proofs.lemmas.Bool.{and_parts}
 use Rattle.std.proofs.lemmas.List.{length-map}
-use Rattle.dk_syntax.proofs.TermLaws.{Each}
+use Rattle.dk_syntax.proofs.ListLaws.{ForEach}
 use Rattle.dk_syntax.specs.Symbols.{joined}
 use Rattle.dk_syntax.specs.WellFormed.{all_true, fits_symbol}
 use Rattle.dk_syntax.specs.declared.Formula.{Formula}
@@ -59,7 +59,7 @@ proper_variable : (o : Option ℕ) (level : ℕ) → IsFoundBelow o level → pr
 proper_variable None level h = absurd h
 proper_variable (Some k) level h = proper-Var k level ∙ lt-ltb k level h
 
-proper_each : (xs : List RawTerm) (bound : Names) → Each ProperTerm xs → first_some (map outside_term xs) ≡ None → all_bound bound (joined (map term_variables xs)) ≡ true
+proper_each : (xs : List RawTerm) (bound : Names) → ForEach ProperTerm xs → first_some (map outside_term xs) ≡ None → all_bound bound (joined (map term_variables xs)) ≡ true
     → all_true (map (proper_term (length bound)) (each bound (map term_of xs))) ≡ true
 proper_each [] bound known o b = refl
 proper_each (x ∷ xs) bound known o b =
@@ -84,7 +84,7 @@ proper_terms = raw_term_induction ProperTerm
     (λ name bound o b. absurd (let h = sym (outside-Distinct name) ∙ o in cc))
     (λ name args known bound o b. absurd (let h = sym (outside-DollarTerm name args) ∙ o in cc))
 
-all_terms : (args : List RawTerm) → Each ProperTerm args
+all_terms : (args : List RawTerm) → ForEach ProperTerm args
 all_terms [] = tt
 all_terms (x ∷ xs) = (proper_terms x, all_terms xs)
 
@@ -143,7 +143,7 @@ module _ (extra : Names) where
       ∙ ap (λ (ns : Names). proper_under (formula_of f ns) (length ns)) (append_assoc extra bound (names_of ps))
       ∙ known (bound ++ names_of ps) o b
 
-  proper_chain : (l : Link) (fs : List Raw) (bound : Names) → Each ProperMeaning fs → first_some (map outside_of fs) ≡ None → all_bound extra (joined (each bound (map free_in fs))) ≡ true
+  proper_chain : (l : Link) (fs : List Raw) (bound : Names) → ForEach ProperMeaning fs → first_some (map outside_of fs) ≡ None → all_bound extra (joined (each bound (map free_in fs))) ≡ true
       → (f : Formula) → proper_under f (length (extra ++ bound)) ≡ true → proper_under (chained l f (each (extra ++ bound) (map formula_of fs))) (length (extra ++ bound)) ≡ true
   proper_chain l [] bound known o b f h = h
   proper_chain l (g ∷ gs) bound known o b f h =

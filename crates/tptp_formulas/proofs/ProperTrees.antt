@@ -3,7 +3,8 @@ use Rattle.std.proofs.Common.{◌≡◌, ℕ, ◌+◌, nat_lt, Bool, true, false
 use Rattle.std.proofs.lemmas.Bool.{and_parts}
 use Rattle.std.proofs.lemmas.List.{length-map}
 use Rattle.dk_syntax.specs.WellFormed.{all_true, closed_under, fits_symbol, has_no_any, term_closed_under, term_has_no_any, well_formed, well_formed_term}
-use Rattle.dk_syntax.proofs.TermLaws.{Each, term_induction}
+use Rattle.dk_syntax.proofs.ListLaws.{ForEach}
+use Rattle.dk_syntax.proofs.TermLaws.{term_induction}
 use Rattle.dk_syntax.proofs.FormulaLaws.{formula_induction}
 use Rattle.dk_syntax.proofs.WellFormedLaws as law
 use Rattle.dk_syntax.specs.declared.Formula.{Formula, Formula-F, fold-Formula, the_lemmas as of_formulas}
@@ -112,7 +113,7 @@ join_below : (bound : Bool) → Joins bound bound true true
 join_below true = record { is = refl }
 join_below false = record { is = refl }
 
-join_args : (args : List Term) → Each JoinsTerm args → (level : ℕ) → Joins (all_true (map (proper_term level) args)) (all_true (map (term_closed_under level) args)) (all_true (map well_formed_term args)) (all_true (map term_has_no_any args))
+join_args : (args : List Term) → ForEach JoinsTerm args → (level : ℕ) → Joins (all_true (map (proper_term level) args)) (all_true (map (term_closed_under level) args)) (all_true (map well_formed_term args)) (all_true (map term_has_no_any args))
 join_args [] known level = record { is = refl }
 join_args (x ∷ args) known level = join_two _ _ _ _ _ _ _ _ (known.0 level) (join_args args known.1 level)
 
@@ -127,7 +128,7 @@ join_terms = term_induction JoinsTerm
     (join_fits (fits_symbol Function symbol (length args)) _ _ _ _ (join_args args known level)))
     (λ level. joins_by _ _ _ _ false true true false (proper-Any level) (law.closed-Any level) law.well_formed-Any law.no_any-Any (record { is = refl }))
 
-each_joins : (args : List Term) → Each JoinsTerm args
+each_joins : (args : List Term) → ForEach JoinsTerm args
 each_joins [] = tt
 each_joins (x ∷ args) = (join_terms x, each_joins args)
 

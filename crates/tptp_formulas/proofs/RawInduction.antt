@@ -1,6 +1,6 @@
 -- Induction over terms and formulas as they are written.
 use Rattle.std.proofs.Common.{ℕ, List, [], ◌∷◌, map, subst}
-use Rattle.dk_syntax.proofs.TermLaws.{Each, each_of}
+use Rattle.dk_syntax.proofs.ListLaws.{ForEach, for_each}
 use Rattle.tptp_formulas.specs.declared.raw.Comparison.{Comparison}
 use Rattle.tptp_formulas.specs.declared.raw.Connective.{Connective}
 use Rattle.tptp_formulas.specs.declared.raw.Link.{Link}
@@ -12,12 +12,12 @@ use Rattle.tptp_formulas.specs.declared.raw.RawTerm.{RawTerm, RawTerm-F, ind-Raw
 use Rattle.tptp_formulas.specs.declared.raw.RawTerm.TheOpen as term_layer
 use Rattle.tptp_formulas.specs.declared.raw.RawTerm.TheVariants as term
 
-facts : {A : Type 0} (P : A → Type 0) (known : List ((x : A) × P x)) → Each P (map (λ one. one.0) known)
+facts : {A : Type 0} (P : A → Type 0) (known : List ((x : A) × P x)) → ForEach P (map (λ one. one.0) known)
 facts P [] = tt
 facts P (one ∷ rest) = (one.1, facts P rest)
 
-module _ (P : RawTerm → Type 0) (at_variable : (name : List ℕ) → P (term.Variable name)) (at_apply : (name : List ℕ) (args : List RawTerm) → Each P args → P (term.Apply name args))
-    (at_number : (name : List ℕ) → P (term.Number name)) (at_distinct : (name : List ℕ) → P (term.Distinct name)) (at_dollar : (name : List ℕ) (args : List RawTerm) → Each P args → P (term.Dollar name args)) where
+module _ (P : RawTerm → Type 0) (at_variable : (name : List ℕ) → P (term.Variable name)) (at_apply : (name : List ℕ) (args : List RawTerm) → ForEach P args → P (term.Apply name args))
+    (at_number : (name : List ℕ) → P (term.Number name)) (at_distinct : (name : List ℕ) → P (term.Distinct name)) (at_dollar : (name : List ℕ) (args : List RawTerm) → ForEach P args → P (term.Dollar name args)) where
   term_at_layer : (y : RawTerm-F ((x : RawTerm) × P x)) → P (roll-RawTerm (map-RawTerm ((x : RawTerm) × P x) RawTerm (λ one. one.0) y))
   term_at_layer (term_layer.Variable name) = rw (term.rolls-Variable name) (at_variable name)
   term_at_layer (term_layer.Apply name known) = rw (term.rolls-Apply name (map (λ one. one.0) known)) (at_apply name (map (λ one. one.0) known) (facts P known))
@@ -28,12 +28,12 @@ module _ (P : RawTerm → Type 0) (at_variable : (name : List ℕ) → P (term.V
   pub raw_term_induction : (x : RawTerm) → P x
   raw_term_induction = ind-RawTerm P (λ x y e. subst (λ z. P (roll-RawTerm z)) e (term_at_layer y))
 
-  pub raw_terms_induction : (xs : List RawTerm) → Each P xs
-  raw_terms_induction = each_of P raw_term_induction
+  pub raw_terms_induction : (xs : List RawTerm) → ForEach P xs
+  raw_terms_induction = for_each P raw_term_induction
 
 module _ (P : Raw → Type 0) (at_atom : (name : List ℕ) (args : List RawTerm) → P (raw.Atom name args)) (at_dollar : (name : List ℕ) (args : List RawTerm) → P (raw.Dollar name args))
     (at_equation : (c : Comparison) (a b : RawTerm) → P (raw.Equation c a b)) (at_unit : (ps : List Prefix) (f : Raw) → P f → P (raw.Unit ps f))
-    (at_binary : (c : Connective) (a b : Raw) → P a → P b → P (raw.Binary c a b)) (at_chain : (l : Link) (f : Raw) (fs : List Raw) → P f → Each P fs → P (raw.Chain l f fs)) where
+    (at_binary : (c : Connective) (a b : Raw) → P a → P b → P (raw.Binary c a b)) (at_chain : (l : Link) (f : Raw) (fs : List Raw) → P f → ForEach P fs → P (raw.Chain l f fs)) where
   at_layer : (y : Raw-F ((x : Raw) × P x)) → P (roll-Raw (map-Raw ((x : Raw) × P x) Raw (λ one. one.0) y))
   at_layer (layer.Atom name args) = rw (raw.rolls-Atom name args) (at_atom name args)
   at_layer (layer.Dollar name args) = rw (raw.rolls-Dollar name args) (at_dollar name args)

@@ -56,3 +56,24 @@ deep_only n (token ∷ tokens) (suc count) few deep = deep_only n tokens count f
 -- a count that has ended
 pub deep_counted : (found : Bool) (tokens : List Token) → found ≡ too_deep 0 tokens → (found ≡ true) ↔ IsTooDeep tokens
 deep_counted found tokens e = (λ so. deep_so 0 tokens (omega arith) (sym e ∙ so), λ (count, deep). e ∙ deep_only 0 tokens count (omega arith) deep)
+
+-- the count says so exactly where it is so
+pub is_deep : (tokens : List Token) → too_deep 0 tokens ≡ true → IsTooDeep tokens
+is_deep tokens so = deep_so 0 tokens (omega arith) so
+
+pub counts_deep : (tokens : List Token) → IsTooDeep tokens → too_deep 0 tokens ≡ true
+counts_deep tokens (count, deep) = deep_only 0 tokens count (omega arith) deep
+
+pub counts_flat : (tokens : List Token) → (IsTooDeep tokens → ⊥) → too_deep 0 tokens ≡ false
+counts_flat tokens flat = elim (cases_Bool (too_deep 0 tokens)) [
+  | inl so ↦ absurd (flat (is_deep tokens so))
+  | inr free ↦ free
+]
+
+pub is_flat : (tokens : List Token) → too_deep 0 tokens ≡ false → IsTooDeep tokens → ⊥
+is_flat tokens free deep = let so = counts_deep tokens deep in cc
+
+-- a test that says so is the count
+pub is_counted : (found : Bool) (tokens : List Token) → ((found ≡ true) ↔ IsTooDeep tokens) → found ≡ too_deep 0 tokens
+is_counted true tokens same = sym (counts_deep tokens (same.0 refl))
+is_counted false tokens same = sym (counts_flat tokens (λ deep. let so = same.1 deep in cc))

@@ -2,7 +2,6 @@
 #![tactic(auto, using(crate::proofs::Places::places), unfolding(crate::specs::Chunks::chunk_from, crate::specs::Brackets::too_deep))]
 
 ghost use Rattle.std.specs.Prelude.{◌≡◌, ◌↔◌, length, IsTrue, IfOk};
-ghost use Rattle.tptp_tokens.specs.Brackets.{too_deep};
 ghost use Rattle.tptp_tokens.specs.Chunks.{chunk};
 ghost use Rattle.tptp_tokens.specs.Nesting.{IsTooDeep};
 ghost use Rattle.tptp_tokens.specs.Quotes.{KnowsUnclosed};
@@ -47,8 +46,7 @@ pub(crate) fn tokens_of<'a>(
 /// Whether more than 1,000 brackets, round or square, are unclosed at once. A closing bracket closes the
 /// last unclosed one of either kind, and nothing where there is none.
 pub fn is_too_deep(tokens: &[Token]) -> bool
-    ensures deep { IsTrue result ↔ IsTooDeep tokens.now }
-    ensures counted { result ≡ too_deep 0 tokens.now }
+    ensures { IsTrue result ↔ IsTooDeep tokens.now }
 {
     let mut unclosed: u32 = 0;
     for token in tokens {

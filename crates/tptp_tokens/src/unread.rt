@@ -34,7 +34,8 @@ impl<'a> Model for Unread<'a> {
 
     ghost view = { λ unread. unread.bytes.now };
 
-    ghost invariant = { λ unread. KnowsClosing unread.closing unread.bytes.now × KnowsUnclosed unread.unclosed unread.bytes.now };
+    ghost invariant = { λ unread. KnowsClosing unread.closing unread.bytes.now
+        × KnowsUnclosed unread.unclosed unread.bytes.now };
 }
 
 impl<'a> Unread<'a> {

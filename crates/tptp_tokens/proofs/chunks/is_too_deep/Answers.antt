@@ -4,10 +4,10 @@ use Rattle.tptp_tokens.proofs.BracketLaws.{deep_counted}
 use Rattle.tptp_tokens.proofs.Places.{places}
 use Rattle.tptp_tokens.proofs.chunks.is_too_deep.Goals as goal
 
-pub returns-then-unclosed-eq1000-clause-deep : goal.returns-then-unclosed-eq1000-clause-deep
+pub returns-then-unclosed-eq1000 : goal.returns-then-unclosed-eq1000
 unfolding too_deep
-returns-then-unclosed-eq1000-clause-deep c = deep_counted _ c.args.tokens.now (grind (arith, places))
+returns-then-unclosed-eq1000 c = deep_counted _ c.args.tokens.now (grind (arith, places))
 
-pub returns-clause-deep : goal.returns-clause-deep
+pub returns : goal.returns
 unfolding too_deep
-returns-clause-deep c = deep_counted _ c.args.tokens.now (grind (arith, places))
+returns c = deep_counted _ c.args.tokens.now (grind (arith, places))

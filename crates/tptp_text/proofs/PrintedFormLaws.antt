@@ -2,7 +2,8 @@
 use Rattle.std.proofs.Common.{◌≡◌, ℕ, ◌+◌, ◌-◌, List, [], ◌∷◌, map, inl, inr, refl, rules, codes}
 use Rattle.std.proofs.lemmas.Bool.{cases_Bool}
 use Rattle.dk_syntax.proofs.FormulaLaws.{formula_induction}
-use Rattle.dk_syntax.proofs.TermLaws.{Each, each_of, term_induction}
+use Rattle.dk_syntax.proofs.ListLaws.{ForEach, for_each}
+use Rattle.dk_syntax.proofs.TermLaws.{term_induction}
 use Rattle.dk_syntax.specs.declared.Formula.{Formula, the_lemmas as of_formulas}
 use Rattle.dk_syntax.specs.declared.Formula.TheVariants as formula
 use Rattle.dk_syntax.specs.declared.SymKey.{SymKey}
@@ -45,13 +46,13 @@ name_is name = elim (cases_Bool (is_lower_word name)) [
 abbrev TermIs : Term → Type 0
 TermIs x = (level : ℕ) (after : List Token) → IsTerm (term_tokens x level after) (term_form x level) after
 
-terms_are : (x : Term) (xs : List Term) → TermIs x → Each TermIs xs → (level : ℕ) (after : List Token) → IsTerms (term_tokens x level (list_tokens t.Comma (map term_tokens xs) level after)) (term_form x level ∷ each level (map term_form xs)) after
+terms_are : (x : Term) (xs : List Term) → TermIs x → ForEach TermIs xs → (level : ℕ) (after : List Token) → IsTerms (term_tokens x level (list_tokens t.Comma (map term_tokens xs) level after)) (term_form x level ∷ each level (map term_form xs)) after
 terms_are x [] first known level after = LastTerm _ _ _ (first level (t.CloseRound ∷ after))
 terms_are x (y ∷ xs) first known level after =
     let mid : List Token = term_tokens y level (list_tokens t.Comma (map term_tokens xs) level after) in
     MoreTerms _ _ mid _ _ (first level (t.Comma ∷ mid)) (terms_are y xs known.0 known.1 level after)
 
-arguments_are : (xs : List Term) → Each TermIs xs → (level : ℕ) (after : List Token) → IsArguments (arguments_tokens (map term_tokens xs) level after) (each level (map term_form xs)) after
+arguments_are : (xs : List Term) → ForEach TermIs xs → (level : ℕ) (after : List Token) → IsArguments (arguments_tokens (map term_tokens xs) level after) (each level (map term_form xs)) after
 arguments_are [] known level after = NoArguments after
 arguments_are (x ∷ xs) known level after = Bracketed _ _ _ (terms_are x xs known.0 known.1 level after)
 
@@ -123,7 +124,7 @@ pub formula_is : (f : Formula) → FormulaIs f
 formula_is = formula_induction FormulaIs
     (λ level after. rw (tokens-True level after, parts-True level) (bare_core _ _ after (Bare _ _ after (DollarAtom _ (codes "$true") [] after (DollarTerm (codes "$true") after [] after (NoArguments after))))))
     (λ level after. rw (tokens-False level after, parts-False level) (bare_core _ _ after (Bare _ _ after (DollarAtom _ (codes "$false") [] after (DollarTerm (codes "$false") after [] after (NoArguments after))))))
-    (λ s args level after. rw (tokens-Atom s args level after, parts-Atom s args level) (bare_core _ _ after (Bare _ _ after (Atom _ s.name _ after (Application (name_token s.name) s.name _ _ after (name_is s.name) (arguments_are args (each_of TermIs term_is args) level after))))))
+    (λ s args level after. rw (tokens-Atom s args level after, parts-Atom s args level) (bare_core _ _ after (Bare _ _ after (Atom _ s.name _ after (Application (name_token s.name) s.name _ _ after (name_is s.name) (arguments_are args (for_each TermIs term_is args) level after))))))
     (λ a known level after. let k = known level after in rw (tokens-Not a level after, parts-Not a level) (k.0, Negated _ _ k.0 k.1, k.2))
     (λ a b left right level after. rw (tokens-And a b level after, parts-And a b level) (bare_core _ _ after (chain_is link.And t.And refl a b left right level after)))
     (λ a b left right level after. rw (tokens-Or a b level after, parts-Or a b level) (bare_core _ _ after (chain_is link.Or t.Or refl a b left right level after)))

@@ -2,7 +2,8 @@
 use Rattle.std.proofs.Common.{◌≡◌, ◌≢◌, ◌⊎◌, inl, inr, ℕ, ◌+◌, ◌-◌, ◌^◌, ◌≤◌, ◌<◌, max, true, false, List, [], ◌∷◌, map, Result, Ok, Err, refl, subst, ◌∙◌, arith}
 use Rattle.std.proofs.lemmas.Bool.{cases_Bool, le-ltb, ne_eqb}
 use Rattle.dk_syntax.proofs.FormulaLaws.{formula_induction, depth-True, depth-False, depth-Atom, depth-Not, depth-And, depth-Or, depth-Imp, depth-Iff, depth-All, depth-Ex}
-use Rattle.dk_syntax.proofs.TermLaws.{Each, each_of, term_induction, depth-Var, depth-App, depth-Any}
+use Rattle.dk_syntax.proofs.ListLaws.{ForEach, for_each}
+use Rattle.dk_syntax.proofs.TermLaws.{term_induction, depth-Var, depth-App, depth-Any}
 use Rattle.dk_syntax.specs.Depth.{formula_depth, greatest, term_depth_of}
 use Rattle.dk_syntax.specs.declared.Formula.{Formula}
 use Rattle.dk_syntax.specs.declared.Term.{Term}
@@ -10,6 +11,7 @@ use Rattle.tptp_tokens.specs.Brackets.{too_deep}
 use Rattle.tptp_tokens.specs.Matter.{Nothing, White}
 use Rattle.tptp_tokens.specs.declared.Token.{Token}
 use Rattle.tptp_tokens.specs.declared.Token.TheVariants as t
+use Rattle.tptp_tokens.proofs.BracketLaws.{is_flat}
 use Rattle.tptp_tokens.proofs.ChunkLaws.{one_chunk}
 use Rattle.tptp_text.specs.Printed.{IsPrintable, is_lower_word, is_digit_run, printed_as, printed_item}
 use Rattle.tptp_text.specs.PrintedTokens.{name_token, item_name_token, item_tokens, list_tokens, arguments_tokens, term_tokens, binary_tokens, quantified_tokens, formula_tokens}
@@ -87,14 +89,14 @@ term_has_depth = term_induction (λ x. 1 ≤ term_depth_of x) (λ n. rw (depth-V
 abbrev TermFits : Term → Type 0
 TermFits x = (level n : ℕ) (after : List Token) → n + term_depth_of x ≤ 1001 → too_deep n (term_tokens x level after) ≡ too_deep n after
 
-list_fits : (xs : List Term) → Each TermFits xs → (level n : ℕ) (after : List Token) → n + (1 + greatest (map term_depth_of xs)) ≤ 1001 → too_deep (n + 1) (list_tokens t.Comma (map term_tokens xs) level after) ≡ too_deep n after
+list_fits : (xs : List Term) → ForEach TermFits xs → (level n : ℕ) (after : List Token) → n + (1 + greatest (map term_depth_of xs)) ≤ 1001 → too_deep (n + 1) (list_tokens t.Comma (map term_tokens xs) level after) ≡ too_deep n after
 unfolding too_deep
 list_fits [] known level n after room = closes n after
 list_fits (x ∷ xs) known level n after room =
     let rest = list_tokens t.Comma (map term_tokens xs) level after in
     known.0 level (n + 1) rest (omega arith) ∙ list_fits xs known.1 level n after (omega arith)
 
-arguments_fit : (xs : List Term) → Each TermFits xs → (level n : ℕ) (after : List Token) → n + (1 + greatest (map term_depth_of xs)) ≤ 1001 → too_deep n (arguments_tokens (map term_tokens xs) level after) ≡ too_deep n after
+arguments_fit : (xs : List Term) → ForEach TermFits xs → (level n : ℕ) (after : List Token) → n + (1 + greatest (map term_depth_of xs)) ≤ 1001 → too_deep n (arguments_tokens (map term_tokens xs) level after) ≡ too_deep n after
 arguments_fit [] known level n after room = refl
 arguments_fit (x ∷ xs) known level n after room =
     let rest = list_tokens t.Comma (map term_tokens xs) level after in
@@ -145,7 +147,7 @@ unfolding too_deep
 formula_fits = formula_induction FormulaFits
     (λ level n after room. rw (tokens-True level after) refl)
     (λ level n after room. rw (tokens-False level after) refl)
-    (λ s args level n after room. rw (tokens-Atom s args level after) (name_passes s.name n _ ∙ arguments_fit args (each_of TermFits term_fits args) level n after (rw (depth-Atom s args) at room)))
+    (λ s args level n after room. rw (tokens-Atom s args level after) (name_passes s.name n _ ∙ arguments_fit args (for_each TermFits term_fits args) level n after (rw (depth-Atom s args) at room)))
     (λ a known level n after room. let fits = rw (depth-Not a) at room in rw (tokens-Not a level after) (known level n after (omega arith)))
     (λ a b left right level n after room. rw (tokens-And a b level after) (binary_fits t.And and_passes a b left right level n after (rw (depth-And a b) at room)))
     (λ a b left right level n after room. rw (tokens-Or a b level after) (binary_fits t.Or or_passes a b left right level n after (rw (depth-Or a b) at room)))
@@ -166,7 +168,9 @@ module _ (name role : List ℕ) (f : Formula) (h : IsPrintable name role f) wher
   small = omega (arith, h.depth)
 
   flat : IsFlat (printed_item name role f)
-  flat tokens stop are = subst (λ (ts : List Token). too_deep 0 ts ≡ false) ((one_chunk (item_reads name role f h.named h.lower small h.symbols) are).0) (item_fits name role f h.depth)
+  flat tokens stop are =
+      let same = (one_chunk (item_reads name role f h.named h.lower small h.symbols) are).0 in
+      is_flat tokens (subst (λ (ts : List Token). too_deep 0 ts ≡ false) same (item_fits name role f h.depth))
 
   within : IsWithin (printed_item name role f) (printed_as name role f)
   within = record { flat = flat; shallow = le-ltb 1000 (formula_depth f) h.depth }

@@ -8,7 +8,8 @@ use Rattle.std.proofs.lemmas.Fmt.{decimal_injective}
 use Rattle.std.proofs.lemmas.List.{length-map}
 use Rattle.std.proofs.lemmas.List.Folds.{list_any-append}
 use Rattle.dk_syntax.proofs.FormulaLaws.{formula_induction, depth-Not, depth-And, depth-Or, depth-Imp, depth-Iff, depth-All, depth-Ex}
-use Rattle.dk_syntax.proofs.TermLaws.{Each, each_of, term_induction}
+use Rattle.dk_syntax.proofs.ListLaws.{ForEach, for_each}
+use Rattle.dk_syntax.proofs.TermLaws.{term_induction}
 use Rattle.dk_syntax.specs.Depth.{formula_depth}
 use Rattle.dk_syntax.specs.Symbols.{joined, same_kind}
 use Rattle.dk_syntax.specs.declared.Formula.{Formula, the_lemmas as of_formulas}
@@ -122,7 +123,7 @@ ListFacts level rs xs = (each (level_names level) (map term_of rs) ≡ xs) × (u
 abbrev TermMeans : Term → Type 0
 TermMeans x = (level : ℕ) → level < 2 ^ 64 → proper_term level x ≡ true → TermFacts level (term_form x level) x
 
-list_means : (xs : List Term) → Each TermMeans xs → (level : ℕ) → level < 2 ^ 64 → all_true (map (proper_term level) xs) ≡ true → ListFacts level (each level (map term_form xs)) xs
+list_means : (xs : List Term) → ForEach TermMeans xs → (level : ℕ) → level < 2 ^ 64 → all_true (map (proper_term level) xs) ≡ true → ListFacts level (each level (map term_form xs)) xs
 list_means [] known level small proper = (refl, refl, refl)
 list_means (x ∷ xs) known level small proper =
     let p = and_parts (proper_term level x) (all_true (map (proper_term level) xs)) proper in
@@ -259,7 +260,7 @@ atom_facts : (s : SymKey) (args : List Term) (level : ℕ) → level < 2 ^ 64 �
 atom_facts s args level small proper =
     let p = and_parts (fits_symbol Predicate s (length args)) (all_true (map (proper_term level) args)) (sym (proper-Atom s args level) ∙ proper) in
     let q = and_parts (same_kind s.kind Predicate) (nat_eq s.arity (length args)) p.0 in
-    let facts = list_means args (each_of TermMeans term_means args) level small p.1 in
+    let facts = list_means args (for_each TermMeans term_means args) level small p.1 in
     let forms = each level (map term_form args) in
     let count : s.arity ≡ length forms = eqb-true s.arity (length args) q.1 ∙ sym (forms_length level args) in (
       meaning-Atom s.name forms (level_names level) ∙ ap₂ (λ (f : SymKey) (xs : List Term). formula.Atom f xs) (symbol_is s (length forms) Predicate count (predicate_is s.kind q.0)) facts.0,

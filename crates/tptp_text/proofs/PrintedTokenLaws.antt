@@ -4,7 +4,8 @@ use Rattle.std.specs.List.{list_all}
 use Rattle.std.proofs.lemmas.Bool.{eqb-true, leb-true, and_parts, or_parts, cases_Bool}
 use Rattle.std.proofs.lemmas.Fmt.{decimal_by_steps}
 use Rattle.dk_syntax.proofs.FormulaLaws.{formula_induction, occurrences-Atom, occurrences-Not, occurrences-And, occurrences-Or, occurrences-Imp, occurrences-Iff, occurrences-All, occurrences-Ex, depth-Not, depth-And, depth-Or, depth-Imp, depth-Iff, depth-All, depth-Ex}
-use Rattle.dk_syntax.proofs.TermLaws.{Each, each_of, term_induction, occurrences-App}
+use Rattle.dk_syntax.proofs.ListLaws.{ForEach, for_each}
+use Rattle.dk_syntax.proofs.TermLaws.{term_induction, occurrences-App}
 use Rattle.dk_syntax.specs.Depth.{formula_depth}
 use Rattle.dk_syntax.specs.Symbols.{formula_occurrences, joined, term_occurrences}
 use Rattle.dk_syntax.specs.declared.Formula.{Formula, the_lemmas as of_formulas}
@@ -199,7 +200,7 @@ list_delimits : (xs : List Term) (level : ℕ) (rest : List ℕ) → Delimits (l
 list_delimits [] level rest = refl
 list_delimits (x ∷ xs) level rest = refl
 
-list_reads : (xs : List Term) → Each TermReads xs → (m : ℕ) (mark : Token) → Marks (m ∷ []) mark → (level : ℕ) (rest : List ℕ) (after : List Token) (stop : List ℕ) → level < 2 ^ 64
+list_reads : (xs : List Term) → ForEach TermReads xs → (m : ℕ) (mark : Token) → Marks (m ∷ []) mark → (level : ℕ) (rest : List ℕ) (after : List Token) (stop : List ℕ) → level < 2 ^ 64
     → AreNamed (joined (map term_occurrences xs)) → AreTokens rest after stop → AreTokens (list_text m (map printed_term xs) level ++ rest) (list_tokens mark (map term_tokens xs) level after) stop
 list_reads [] known m mark marks level rest after stop small named k = closing k
 list_reads (x ∷ xs) known m mark marks level rest after stop small named k =
@@ -214,12 +215,12 @@ arguments_delimit : (xs : List Term) (level : ℕ) (rest : List ℕ) → Delimit
 arguments_delimit [] level rest d = d
 arguments_delimit (x ∷ xs) level rest d = refl
 
-arguments_read : (xs : List Term) → Each TermReads xs → (level : ℕ) (rest : List ℕ) (after : List Token) (stop : List ℕ) → level < 2 ^ 64
+arguments_read : (xs : List Term) → ForEach TermReads xs → (level : ℕ) (rest : List ℕ) (after : List Token) (stop : List ℕ) → level < 2 ^ 64
     → AreNamed (joined (map term_occurrences xs)) → AreTokens rest after stop → AreTokens (arguments_text (map printed_term xs) level ++ rest) (arguments_tokens (map term_tokens xs) level after) stop
 arguments_read [] known level rest after stop small named k = k
 arguments_read (x ∷ xs) known level rest after stop small named k = list_reads (x ∷ xs) known 40 t.OpenRound (λ bytes ts s h. opening h) level rest after stop small named k
 
-applied_read : (s : SymKey) (xs : List Term) → Each TermReads xs → (level : ℕ) (rest : List ℕ) (after : List Token) (stop : List ℕ) → level < 2 ^ 64
+applied_read : (s : SymKey) (xs : List Term) → ForEach TermReads xs → (level : ℕ) (rest : List ℕ) (after : List Token) (stop : List ℕ) → level < 2 ^ 64
     → IsQuoted s.name → AreNamed (joined (map term_occurrences xs)) → Delimits rest → AreTokens rest after stop
     → AreTokens ((printed_name s.name ++ arguments_text (map printed_term xs) level) ++ rest) (name_token s.name ∷ arguments_tokens (map term_tokens xs) level after) stop
 applied_read s xs known level rest after stop small name named d k =
@@ -369,7 +370,7 @@ formula_reads = formula_induction FormulaReads
     (λ level rest after stop small named d k. rw (text-True level, tokens-True level after) (true_read rest after stop d k))
     (λ level rest after stop small named d k. rw (text-False level, tokens-False level after) (false_read rest after stop d k))
     (λ s args level rest after stop small named d k. let names = rw (occurrences-Atom s args) at named in
-    rw (text-Atom s args level, tokens-Atom s args level after) (applied_read s args (each_of TermReads term_reads args) level rest after stop (omega arith) names.0 names.1 d k))
+    rw (text-Atom s args level, tokens-Atom s args level after) (applied_read s args (for_each TermReads term_reads args) level rest after stop (omega arith) names.0 names.1 d k))
     (λ a known level rest after stop small named d k. let fits = rw (depth-Not a) at small in
     rw (text-Not a level, tokens-Not a level after) (tilde (formula_starts a level rest) (known level rest after stop (omega arith) (rw (occurrences-Not a) at named) d k)))
     (λ a b left right level rest after stop small named d k. rw (text-And a b level, tokens-And a b level after) (binary_reads (codes " & ") t.And and_mark (λ bytes. refl) a b left right level rest after stop (rw (depth-And a b) at small) (rw (occurrences-And a b) at named) k))

@@ -5,8 +5,10 @@ use Rattle.tptp_tokens.specs.declared.Token.{Token}
 use Rattle.tptp_tokens.specs.Brackets.{too_deep as deep_brackets}
 use Rattle.tptp_tokens.specs.Chunks.{chunk, behind_dot}
 use Rattle.tptp_tokens.specs.Matter.{Skips}
+use Rattle.tptp_tokens.specs.Nesting.{IsTooDeep}
 use Rattle.tptp_tokens.specs.Skipping.{Between, skip}
 use Rattle.tptp_tokens.specs.TokenLists.{AreTokens}
+use Rattle.tptp_tokens.proofs.BracketLaws.{counts_deep, counts_flat, is_deep, is_flat}
 use Rattle.tptp_tokens.proofs.ChunkLaws.{skips_shorter, chunk_so, chunk_only, stop_shorter, one_chunk}
 use Rattle.tptp_tokens.proofs.SkippedMatter.{skips_so, skips_only, one_rest}
 use Rattle.tptp_formulas.specs.Meaning.{too_deep}
@@ -88,7 +90,7 @@ module _ (total : ℕ) (start : Bool) (bytes here : List ℕ) (count : ℕ) (s :
 
   module _ (tokens : List Token) (stop : List ℕ) (are : AreTokens here tokens stop) (flat : deep_brackets 0 tokens ≡ false) where
     flat_here : IsFlat here
-    flat_here others end h = subst (λ (x : List Token). deep_brackets 0 x ≡ false) ((one_chunk are h).0) flat
+    flat_here others end h = is_flat others (subst (λ (x : List Token). deep_brackets 0 x ≡ false) ((one_chunk are h).0) flat)
 
     no_item : ((item : Item) (after : List ℕ) → item_at tokens ≡ Some item → stop ≡ 46 ∷ after → ⊥) → FaultFrom HasNoItem total start bytes count (total - length here)
     no_item none = at_here HasNoItem (few, flat_here, λ item after b. let same = one_chunk b.are are in none item after (ap item_at (sym same.0) ∙ item_only b.reads) (sym same.1))
@@ -118,7 +120,7 @@ module _ (total : ℕ) (start : Bool) (bytes here : List ℕ) (count : ℕ) (s :
   one_says =
       let are = chunk_so (length here) here (omega arith) in
       cond_both (deep_brackets 0 (chunk (length here) here).0) (Err (TooDeep (total - length here))) (dotted_at (total - length here) (chunk (length here) here).0 (behind_dot (chunk (length here) here).1)) (λ r. Says total start bytes count (r then next))
-      (λ deep. inl (at_here HasDeepBrackets (few, ((chunk (length here) here).0, (chunk (length here) here).1, are, deep))))
+      (λ deep. inl (at_here HasDeepBrackets (few, ((chunk (length here) here).0, (chunk (length here) here).1, are, is_deep (chunk (length here) here).0 deep))))
       (λ flat. dotted_says (chunk (length here) here).0 (chunk (length here) here).1 are flat (behind_dot (chunk (length here) here).1) refl)
 
 below : (count : ℕ) → eqb count 65536 ≡ false → count ≤ 65536 → count < 65536
@@ -195,7 +197,7 @@ answers bytes r a = answer_from bytes r (text_at bytes) a (text_sound bytes)
 
 within_one : (at : ℕ) (here : List ℕ) (item : Item) (after : List ℕ) → BeginsItem here item after → IsWithin here item → one_at at here ≡ Ok (item, after)
 unfolding one_at dotted_at
-within_one at here item after b w = rw (chunk_only b.are (length here) (omega arith), w.flat b.tokens (46 ∷ after) b.are, item_only b.reads, w.shallow) refl
+within_one at here item after b w = rw (chunk_only b.are (length here) (omega arith), counts_flat b.tokens (w.flat b.tokens (46 ∷ after) b.are), item_only b.reads, w.shallow) refl
 
 at_front : (total : ℕ) (more : List ℕ → Result (List Item) TptpFault) (count : ℕ) (here : List ℕ) (item : Item) (after : List ℕ) → 0 < length here → count < 65536 → BeginsItem here item after → IsWithin here item
     → items_from total more count here ≡ (more after then λ items. Ok (item ∷ items))
@@ -241,13 +243,13 @@ unfolding items_from
 fault_reads total more count [] fault some few e = absurd (omega arith)
 fault_reads total more count (c ∷ bytes) fault some few e = rw (ne_eqb count 65536 (λ d. omega arith), e) refl
 
-deep_one : (at : ℕ) (here : List ℕ) (tokens : List Token) (stop : List ℕ) → AreTokens here tokens stop → deep_brackets 0 tokens ≡ true → one_at at here ≡ Err (TooDeep at)
+deep_one : (at : ℕ) (here : List ℕ) (tokens : List Token) (stop : List ℕ) → AreTokens here tokens stop → IsTooDeep tokens → one_at at here ≡ Err (TooDeep at)
 unfolding one_at
-deep_one at here tokens stop are deep = rw (chunk_only are (length here) (omega arith), deep) refl
+deep_one at here tokens stop are deep = rw (chunk_only are (length here) (omega arith), counts_deep tokens deep) refl
 
 deep_formula_one : (at : ℕ) (here : List ℕ) (item : Item) (after : List ℕ) → IsFlat here → BeginsItem here item after → too_deep item.body ≡ true → one_at at here ≡ Err (TooDeep at)
 unfolding one_at dotted_at
-deep_formula_one at here item after flat b deep = rw (chunk_only b.are (length here) (omega arith), flat b.tokens (46 ∷ after) b.are, item_only b.reads, deep) refl
+deep_formula_one at here item after flat b deep = rw (chunk_only b.are (length here) (omega arith), counts_flat b.tokens (flat b.tokens (46 ∷ after) b.are), item_only b.reads, deep) refl
 
 no_item_dotted : (at : ℕ) (here : List ℕ) (tokens : List Token) (stop : List ℕ) → AreTokens here tokens stop → ((item : Item) (after : List ℕ) → BeginsItem here item after → ⊥) → (o : Option (List ℕ)) → behind_dot stop ≡ o → (i : Option Item) → item_at tokens ≡ i
     → dotted_at at tokens o ≡ Err (NotTptp at)
@@ -261,7 +263,7 @@ no_item_one : (at : ℕ) (here : List ℕ) → IsFlat here → ((item : Item) (a
 unfolding one_at
 no_item_one at here flat none =
     let are = chunk_so (length here) here (omega arith) in
-    rw (flat (chunk (length here) here).0 (chunk (length here) here).1 are) (no_item_dotted at here (chunk (length here) here).0 (chunk (length here) here).1 are none (behind_dot (chunk (length here) here).1) refl (item_at (chunk (length here) here).0) refl)
+    rw (counts_flat (chunk (length here) here).0 (flat (chunk (length here) here).0 (chunk (length here) here).1 are)) (no_item_dotted at here (chunk (length here) here).0 (chunk (length here) here).1 are none (behind_dot (chunk (length here) here).1) refl (item_at (chunk (length here) here).0) refl)
 
 -- a fault that stands at its place is read
 fault_only : (Is : ℕ → List ℕ → Type 0) (bytes : List ℕ) (at : ℕ) (fault : ℕ → TptpFault) (f : FaultAt Is bytes at) → length f.items ≤ 65536

@@ -1,8 +1,8 @@
 -- Which bytes are items, and where the first fault is.
 use Rattle.std.specs.Prelude.{◌≡◌, ℕ, ◌-◌, ◌<◌, ◌≤◌, ◌⊎◌, true, false, Bool, List, [], ◌∷◌, length, Result, Ok, Err}
 use Rattle.tptp_tokens.specs.declared.Token.{Token}
-use Rattle.tptp_tokens.specs.Brackets.{too_deep as deep_brackets}
 use Rattle.tptp_tokens.specs.Matter.{Skips}
+use Rattle.tptp_tokens.specs.Nesting.{IsTooDeep}
 use Rattle.tptp_tokens.specs.TokenLists.{AreTokens}
 use Rattle.tptp_formulas.specs.Meaning.{too_deep}
 use Rattle.tptp_text.specs.declared.fault.TptpFault.{TptpFault}
@@ -18,7 +18,7 @@ pub record BeginsItem (here : List ℕ) (item : Item) (after : List ℕ) : Type 
 
 -- No more than 1,000 brackets are unclosed at once among the tokens from here on.
 abbrev pub IsFlat : List ℕ → Type 0
-IsFlat here = (tokens : List Token) (stop : List ℕ) → AreTokens here tokens stop → deep_brackets 0 tokens ≡ false
+IsFlat here = (tokens : List Token) (stop : List ℕ) → AreTokens here tokens stop → IsTooDeep tokens → ⊥
 
 -- The item that begins here is within the limits.
 pub record IsWithin (here : List ℕ) (item : Item) : Type 0 where
@@ -55,7 +55,7 @@ IsFull count here = count ≡ 65536
 
 -- There is room, and more than 1,000 brackets are unclosed at once.
 abbrev pub HasDeepBrackets : ℕ → List ℕ → Type 0
-HasDeepBrackets count here = (count < 65536) × ((tokens : List Token) × (stop : List ℕ) × AreTokens here tokens stop × (deep_brackets 0 tokens ≡ true))
+HasDeepBrackets count here = (count < 65536) × ((tokens : List Token) × (stop : List ℕ) × AreTokens here tokens stop × IsTooDeep tokens)
 
 -- There is room, the brackets are not too deep, and no item begins.
 abbrev pub HasNoItem : ℕ → List ℕ → Type 0

@@ -268,7 +268,8 @@ fn item_text(
     role: &Name,
     formula: &Formula,
 ) -> Result<Vec<u8>, NoMemory>
-    ensures { IfOk result (λ text. text.items ≡ printed.printed_item name.now role.now formula.now) }
+    ensures { IfOk result (λ text. text.items
+        ≡ printed.printed_item name.now role.now formula.now) }
 {
     let mut out = Vec::new(alloc);
     put(&mut out, b"fof(")?;

@@ -190,7 +190,8 @@ fn call_of<'a>(
     word: &Name,
     tokens: &'a [Token],
 ) -> Result<(Source, &'a [Token]), ReadError>
-    ensures { Gives (λ x. (x.0, x.1.now)) result (call_at (source_at room true) word.now tokens.now) }
+    ensures { Gives (λ x. (x.0, x.1.now)) result
+        (call_at (source_at room true) word.now tokens.now) }
 {
     if word.as_bytes() == b"file".as_slice() {
         let (kept, rest) = file_of(alloc, tokens)?;

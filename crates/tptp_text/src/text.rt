@@ -3,6 +3,7 @@
 
 ghost use Rattle.std.specs.Prelude.{◌≡◌, ◌≢◌, ◌+◌, ◌≤◌, length, true, IfOk, List, Result, Err};
 ghost use Rattle.std.specs.Option.{option_copied};
+ghost use Rattle.tptp_tokens.specs.Brackets.{too_deep as deep_brackets};
 ghost use Rattle.tptp_text.specs.declared.fault.TptpFault.{TptpFault as Fault};
 ghost use Rattle.tptp_text.specs.declared.fault.TptpFault.TheVariants.{Memory};
 ghost use Rattle.tptp_text.specs.declared.item.Item.{Item as Written};
@@ -17,14 +18,21 @@ use crate::items::item_of;
 use dk_syntax::{Name, Seq};
 use std::alloc::Global;
 use tptp_formulas::{Body, OutsideKind};
-use tptp_tokens::{Unread, is_too_deep};
+use tptp_tokens::{Token, Unread, is_too_deep};
+
+/// Whether too many brackets are unclosed, as they are counted one by one.
+fn has_deep_brackets(tokens: &[Token]) -> bool
+    ensures { result ≡ deep_brackets 0 tokens.now }
+{
+    is_too_deep(tokens)
+}
 
 /// The item that begins here, at that byte, and what stands behind its full stop.
 fn one_item<'a>(alloc: Global, at: u64, here: &Unread<'a>) -> Result<(Item, Unread<'a>), TptpFault>
     ensures { Answers (λ x. x) result (one_at at here.now) }
 {
     let (tokens, rest) = here.chunk(alloc)?;
-    if is_too_deep(tokens.as_slice()) {
+    if has_deep_brackets(tokens.as_slice()) {
         return Err(TptpFault::TooDeep { at });
     }
     match rest.behind_dot() {

@@ -1,5 +1,4 @@
 pub mod SourceLaws
-pub mod KeyLaws
 pub mod NameLaws
 pub mod DistinctLaws
 pub mod FitLaws

@@ -1,4 +1,3 @@
-pub mod Keys
 pub mod Names
 pub mod Faults
 pub mod Sources

@@ -11,8 +11,8 @@
 //! step: the names of parents are collected only until there are more than eight. Formulas are those of the items.
 //! Laws for the crates above stand in `proofs/AnswerLaws` (items have one problem and one trace).
 //!
-//! The cost is linear in the items, with names and symbols looked up by hashes, but for the symbols of one
-//! formula, which cost their occurrences times their number. Calls nest as deep as the inferences of a source.
+//! The cost is linear in the items, with names and symbols looked up by hashes. Calls nest as deep as the
+//! inferences of a source.
 #![tactic(auto)]
 
 mod derivations;
@@ -22,7 +22,6 @@ mod names;
 mod problems;
 mod sources;
 mod step;
-mod symbols;
 mod traces;
 mod words;
 

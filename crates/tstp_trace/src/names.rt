@@ -15,7 +15,8 @@ pub fn next_number(last: u32) -> Result<u32, NoMemory>
 
 /// Adds the name, and answers whether it is new.
 pub fn add_name(alloc: Global, names: &mut IndexSet<Vec<u8>>, name: &Name) -> Result<bool, NoMemory>
-    ensures fresh { IfOk result (λ fresh. fresh ≡ not (is_among (bytes_of names.old.keys) name.now)) }
+    ensures fresh { IfOk result (λ fresh. fresh
+        ≡ not (is_among (bytes_of names.old.keys) name.now)) }
     ensures names { IfOk result (λ fresh. bytes_of names.new.keys
         ≡ with_name (bytes_of names.old.keys) name.now) }
 {

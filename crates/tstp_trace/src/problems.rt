@@ -5,15 +5,13 @@ ghost use Rattle.std.specs.Prelude.{◌≡◌, ◌++◌, ◌∷◌, [], codes, m
 ghost use Rattle.dk_syntax.specs.Problems.{formula_of, symbols_of_formulas};
 ghost use Rattle.dk_syntax.specs.Symbols.{formula_occurrences, joined, with_symbols};
 ghost use Rattle.tptp_text.specs.ProperItems.{HaveProperFormulas};
-ghost use Rattle.tstp_trace.specs.Keys.{symbols_in};
 ghost use Rattle.tstp_trace.specs.Names.{AreDistinct, bytes_of, is_among, with_name};
 ghost use Rattle.tstp_trace.specs.Problems as spec;
 
 use crate::fault::ProblemFault;
 use crate::names::{add_name, next_number};
-use crate::symbols::{Key, add_symbols_of, listed};
 use crate::words::is_word;
-use dk_syntax::{Name, Named, NoMemory, Problem, Seq, SymKey};
+use dk_syntax::{Name, Named, NoMemory, Problem, Seq, SymKey, add_formula, copy_symbols};
 use indexmap::IndexSet;
 use std::alloc::Global;
 use tptp_text::{Body, Item, copy_items};
@@ -84,16 +82,15 @@ fn named_of(
 /// Adds the symbols of the formula that may be there.
 fn add_symbols(
     alloc: Global,
-    keys: &mut IndexSet<Key>,
+    seen: &mut IndexSet<SymKey>,
     named: &Option<Named>,
 ) -> Result<(), NoMemory>
-    ensures { OnOk result (symbols_in keys.new.keys
-        ≡ with_symbols (symbols_in keys.old.keys)
+    ensures { OnOk result (seen.new.keys ≡ with_symbols seen.old.keys
         (joined (map formula_occurrences (formula_of named.now)))) }
 {
     match named {
         None => Ok(()),
-        Some(named) => add_symbols_of(alloc, keys, &named.formula),
+        Some(named) => add_formula(alloc, seen, &named.formula),
     }
 }
 
@@ -106,12 +103,12 @@ fn symbols_of_all(
     ensures { IfOk result (λ all. all ≡ symbols_of_formulas (map
         (λ named. named.formula) hyps.now ++ formula_of conjecture.now)) }
 {
-    let mut keys = IndexSet::new(alloc);
+    let mut seen = IndexSet::new(alloc);
     for named in hyps {
-        add_symbols_of(alloc, &mut keys, &named.formula)?;
+        add_formula(alloc, &mut seen, &named.formula)?;
     }
-    add_symbols(alloc, &mut keys, conjecture)?;
-    let symbols = listed(alloc, &keys)?;
+    add_symbols(alloc, &mut seen, conjecture)?;
+    let symbols = copy_symbols(alloc, seen.as_slice())?;
     Ok(symbols)
 }
 

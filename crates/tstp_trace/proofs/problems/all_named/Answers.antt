@@ -1,13 +1,14 @@
-use Rattle.std.proofs.Common.{◌∙◌, ◌+◌, ◌≤◌, ◌++◌, List, length, map, filter, sym, ap, take, arith}
+use Rattle.std.proofs.Common.{◌∙◌, ◌+◌, ◌≤◌, ◌++◌, List, length, map, filter, sym, ap, take, arith, refl}
 use Rattle.std.proofs.lemmas.Iterator.Adapters.{YieldsList-from_vec}
 use Rattle.std.proofs.lemmas.Iterator.Consumers.{YieldsList-end, YieldsList-turn}
 use Rattle.std.proofs.lemmas.List.{length_push, take_all}
+use Rattle.std.proofs.lemmas.Option.{slice_get_read}
 use Rattle.dk_syntax.specs.Problems.{formula_of, symbols_of_formulas}
 use Rattle.dk_syntax.specs.declared.Named.{Named}
 use Rattle.tstp_trace.specs.Names.{bytes_of}
 use Rattle.tstp_trace.specs.Problems.{is_conjecture, is_hypothesis, item_fault, part_of_item, part_of_named}
 use Rattle.tstp_trace.proofs.ProblemLaws.{conjectured_so_far, conjectures_now, first_item_fault, hypotheses_now, item_judged, sound_item}
-use Rattle.tstp_trace.proofs.TraceLaws.{names_so_far, read_place, sound_so_far}
+use Rattle.tstp_trace.proofs.TraceLaws.{names_so_far, sound_so_far}
 use Rattle.tstp_trace.proofs.problems.all_named.Goals as goal
 
 pub returns-in-Err : goal.returns-in-Err
@@ -17,7 +18,7 @@ returns-in-Err c =
     let item = c.in-Some.item in
     let names = bytes_of c.loop-item.names.keys in
     let turn = YieldsList-turn (YieldsList-from_vec {s = c.into_iter-item-iterator.result} items c.into_iter-item-iterator.ensures.into_iter_gives.0 (c.into_iter-item-iterator.ensures.into_iter_gives.1 ∙ c.args.items.ok.0)) c.loop-item.yielded c.loop-item.item-iterator c.loop-item.yielded_by c.next.result c.next.new.self item c.in-Some.is c.next.ensures.steps in
-    let here = read_place items place item turn.0 turn.1 in
+    let here = slice_get_read items (length items) place item refl turn.0 turn.1 in
     let counted = c.in_ok-number.ensures ∙ ap (λ n. n + 1) c.loop-item.invariant.last in
     let told = c.is_some-conjectured.ensures ∙ conjectured_so_far c.loop-item.conjecture (take place items) c.loop-item.invariant.conjectures in
     let judged = item_judged items place c.in_ok-number.number names c.is_some-conjectured.result item c.loop-item.invariant.names told counted turn.0 in
@@ -30,7 +31,7 @@ loop-item-preserved c =
     let item = c.in-Some.item in
     let names = bytes_of c.loop-item.names.keys in
     let turn = YieldsList-turn (YieldsList-from_vec {s = c.into_iter-item-iterator.result} items c.into_iter-item-iterator.ensures.into_iter_gives.0 (c.into_iter-item-iterator.ensures.into_iter_gives.1 ∙ c.args.items.ok.0)) c.loop-item.yielded c.loop-item.item-iterator c.loop-item.yielded_by c.next.result c.next.new.self item c.in-Some.is c.next.ensures.steps in
-    let here = read_place items place item turn.0 turn.1 in
+    let here = slice_get_read items (length items) place item refl turn.0 turn.1 in
     let counted = c.in_ok-number.ensures ∙ ap (λ n. n + 1) c.loop-item.invariant.last in
     let told = c.is_some-conjectured.ensures ∙ conjectured_so_far c.loop-item.conjecture (take place items) c.loop-item.invariant.conjectures in
     let judged = item_judged items place c.in_ok-number.number names c.is_some-conjectured.result item c.loop-item.invariant.names told counted turn.0 in

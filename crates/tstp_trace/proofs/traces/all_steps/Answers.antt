@@ -1,10 +1,11 @@
-use Rattle.std.proofs.Common.{◌≤◌, ◌+◌, ◌∙◌, length, map, sym, ap, arith}
+use Rattle.std.proofs.Common.{◌≤◌, ◌+◌, ◌∙◌, length, map, refl, sym, ap, arith}
 use Rattle.std.proofs.lemmas.Iterator.Adapters.{YieldsList-from_vec}
 use Rattle.std.proofs.lemmas.Iterator.Consumers.{YieldsList-end, YieldsList-turn}
 use Rattle.std.proofs.lemmas.List.{length_push, take_all}
+use Rattle.std.proofs.lemmas.Option.{slice_get_read}
 use Rattle.tstp_trace.specs.Names.{bytes_of}
 use Rattle.tstp_trace.specs.Traces.{part_of_item, part_of_step, step_fault}
-use Rattle.tstp_trace.proofs.TraceLaws.{first_step_fault, names_so_far, not_duplicate, read_place, sound_so_far, step_judged, steps_so_far}
+use Rattle.tstp_trace.proofs.TraceLaws.{first_step_fault, names_so_far, not_duplicate, sound_so_far, step_judged, steps_so_far}
 use Rattle.tstp_trace.proofs.traces.all_steps.Goals as goal
 
 pub returns-in-Err : goal.returns-in-Err
@@ -13,7 +14,7 @@ returns-in-Err c =
     let place = length c.loop-item.yielded in
     let item = c.in-Some.item in
     let turn = YieldsList-turn (YieldsList-from_vec {s = c.into_iter-item-iterator.result} items c.into_iter-item-iterator.ensures.into_iter_gives.0 (c.into_iter-item-iterator.ensures.into_iter_gives.1 ∙ c.args.items.ok.0)) c.loop-item.yielded c.loop-item.item-iterator c.loop-item.yielded_by c.next.result c.next.new.self item c.in-Some.is c.next.ensures.steps in
-    let here = read_place items place item turn.0 turn.1 in
+    let here = slice_get_read items (length items) place item refl turn.0 turn.1 in
     let counted = c.in_ok-number.ensures ∙ ap (λ n. n + 1) c.loop-item.invariant.last in
     first_step_fault items place c.in_ok-number.number (bytes_of c.loop-item.names.keys) item c.in-Err.fault c.loop-item.invariant.names counted turn.0 here c.loop-item.invariant.sound c.in-Err.ensures.answer
 
@@ -24,7 +25,7 @@ loop-item-preserved c =
     let item = c.in-Some.item in
     let names = bytes_of c.loop-item.names.keys in
     let turn = YieldsList-turn (YieldsList-from_vec {s = c.into_iter-item-iterator.result} items c.into_iter-item-iterator.ensures.into_iter_gives.0 (c.into_iter-item-iterator.ensures.into_iter_gives.1 ∙ c.args.items.ok.0)) c.loop-item.yielded c.loop-item.item-iterator c.loop-item.yielded_by c.next.result c.next.new.self item c.in-Some.is c.next.ensures.steps in
-    let here = read_place items place item turn.0 turn.1 in
+    let here = slice_get_read items (length items) place item refl turn.0 turn.1 in
     let counted = c.in_ok-number.ensures ∙ ap (λ n. n + 1) c.loop-item.invariant.last in
     let judged = step_judged items place c.in_ok-number.number names item c.loop-item.invariant.names counted turn.0 in
     let none = c.in-Ok.ensures.answer.0 in

@@ -89,12 +89,6 @@ next_key names keys after key i distinct so_far here is =
 
 -- ---- parents
 
--- an item that was read stands in the list
-pub read_place : {X : Type 0} (xs : List X) (i : ℕ) (x : X) → i < length xs → x ≡ get_or xs i x → slice_get xs i ≡ Some x
-read_place [] i x below is = absurd (omega arith)
-read_place (y ∷ xs) zero x below is = ap Some (sym is)
-read_place (y ∷ xs) (suc i) x below is = read_place xs i x (omega arith) is
-
 -- a list's front with the next item
 pub front_grows : {X : Type 0} (xs : List X) (i : ℕ) (x : X) → i < length xs → x ≡ get_or xs i x → take (i + 1) xs ≡ take i xs ++ x ∷ []
 front_grows xs i x below is = take_more xs i x below ∙ ap (λ y. take i xs ++ y ∷ []) (sym is)

@@ -2,8 +2,9 @@
 //!
 //! `graph_of` answers the numbers of the parents of each step, or the first parent that no step has for a
 //! name, or the least step from which a walk along parents leads back to it (specs/Graphs). `root` answers the
-//! first step that derives `$false` and may be the root (specs/Roots), and so does `root_by_marks`. `order` answers the one list that has, at
-//! each turn, the least step whose parents are all listed (specs/Orders); where there is no cycle it has every step.
+//! first step that derives `$false` and may be the root (specs/Roots), and so does `root_by_marks`. `order` answers
+//! the one list that has, at each turn, the least step whose parents are all listed (specs/Orders); where there is no
+//! cycle it has every step.
 //!
 //! It takes nodes with distinct names from whoever built a trace, and asks nothing of names else: a parent may
 //! stand later in the file. In a graph that `graph_of` answers each parent is a step and there is an order, so

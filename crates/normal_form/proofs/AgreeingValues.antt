@@ -1,7 +1,8 @@
 -- Terms, literals and clauses have the same value at values that agree on the variables that occur.
 use Rattle.std.proofs.Common.{◌≡◌, ℕ, true, ◌||◌, nat_eq, List, [], ◌∷◌, ◌++◌, map, refl, sym, ap, ap₂, ◌∙◌, arith, rules}
 use Rattle.std.proofs.lemmas.Bool.Decides.{nat_tests}
-use Rattle.dk_syntax.proofs.TermLaws.{Each, each_of, term_induction}
+use Rattle.dk_syntax.proofs.ListLaws.{ForEach, for_each}
+use Rattle.dk_syntax.proofs.TermLaws.{term_induction}
 use Rattle.dk_syntax.specs.Symbols.{joined}
 use Rattle.dk_syntax.specs.declared.Literal.{Literal}
 use Rattle.dk_syntax.specs.declared.SymKey.{SymKey}
@@ -26,7 +27,7 @@ has-append (x ∷ xs) ys k = ap (λ z. nat_eq x k || z) (has-append xs ys k) ∙
 abbrev pub ListsVariables : Term → Type 0
 ListsVariables t = (k : ℕ) → has_number (variables_of t) k ≡ has_variable k t
 
-terms_list : (ts : List Term) → Each ListsVariables ts → (k : ℕ) → has_number (joined (map variables_of ts)) k ≡ any_true (map (has_variable k) ts)
+terms_list : (ts : List Term) → ForEach ListsVariables ts → (k : ℕ) → has_number (joined (map variables_of ts)) k ≡ any_true (map (has_variable k) ts)
 terms_list [] h k = refl
 terms_list (t ∷ ts) h k = has-append (variables_of t) (joined (map variables_of ts)) k ∙ ap₂ (λ a b. a || b) (h.0 k) (terms_list ts h.1 k)
 
@@ -46,7 +47,7 @@ term_lists = term_induction ListsVariables
     (λ k. ap (λ ns. has_number ns k) variables-Any ∙ sym (in-Any k))
 
 pub literal_lists : (l : Literal) (k : ℕ) → has_number (literal_variables l) k ≡ any_true (map (has_variable k) l.args)
-literal_lists l = terms_list l.args (each_of ListsVariables term_lists l.args)
+literal_lists l = terms_list l.args (for_each ListsVariables term_lists l.args)
 
 -- ---- values that agree
 
@@ -55,7 +56,7 @@ module _ {D : Type 0} (i : Interpretation D) (e v : ℕ → D) where
   abbrev pub TermAgrees : Term → Type 0
   TermAgrees t = ((k : ℕ) → has_variable k t ≡ true → e k ≡ v k) → value i e t ≡ value i v t
 
-  terms_agree : (ts : List Term) → Each TermAgrees ts → ((k : ℕ) → any_true (map (has_variable k) ts) ≡ true → e k ≡ v k) → map (value i e) ts ≡ map (value i v) ts
+  terms_agree : (ts : List Term) → ForEach TermAgrees ts → ((k : ℕ) → any_true (map (has_variable k) ts) ≡ true → e k ≡ v k) → map (value i e) ts ≡ map (value i v) ts
   terms_agree [] h same = refl
   terms_agree (t ∷ ts) h same =
       ap₂ (λ x xs. x ∷ xs) (h.0 (λ k o. same k (or_of_left (has_variable k t) (any_true (map (has_variable k) ts)) o)))
@@ -68,7 +69,7 @@ module _ {D : Type 0} (i : Interpretation D) (e v : ℕ → D) where
       (λ same. value-Any i e ∙ sym (value-Any i v))
 
   pub literal_agrees : (l : Literal) → ((k : ℕ) → any_true (map (has_variable k) l.args) ≡ true → e k ≡ v k) → literal_truth i e l ≡ literal_truth i v l
-  literal_agrees l same = ap (λ vs. signed l.positive (i.predicate l.pred vs)) (terms_agree l.args (each_of TermAgrees term_agrees l.args) same)
+  literal_agrees l same = ap (λ vs. signed l.positive (i.predicate l.pred vs)) (terms_agree l.args (for_each TermAgrees term_agrees l.args) same)
 
   pub clause_agrees : (lits : List Literal) → ((k : ℕ) → has_number (joined (map literal_variables lits)) k ≡ true → e k ≡ v k) → clause_truth i e lits ≡ clause_truth i v lits
   clause_agrees [] same = refl

@@ -2,7 +2,8 @@
 use Rattle.std.proofs.Common.{◌≡◌, ℕ, zero, suc, ◌-◌, ◌<◌, ◌≤◌, inl, inr, false, nat_lt, if◌then◌else◌, List, [], ◌∷◌, map, refl, sym, ap, ap₂, ◌∙◌, arith, rules}
 use mathlib.Core.Path.{fun_ext}
 use Rattle.std.proofs.lemmas.Bool.Decides.{nat_tests}
-use Rattle.dk_syntax.proofs.TermLaws.{Each, each_of, term_induction}
+use Rattle.dk_syntax.proofs.ListLaws.{ForEach, for_each}
+use Rattle.dk_syntax.proofs.TermLaws.{term_induction}
 use Rattle.dk_syntax.specs.declared.Literal.{Literal}
 use Rattle.dk_syntax.specs.declared.SymKey.{SymKey}
 use Rattle.dk_syntax.specs.declared.Term.{Term, the_lemmas as of_terms}
@@ -83,7 +84,7 @@ var_skips k p q h (suc n) o = elim (test_cases (nat_lt k (suc n))) [
       var_stays_below k p q (suc n) ((h (suc n)).0 b) l
 ]
 
-args_skip : (k : ℕ) (p q : ℕ → ℕ) (ts : List Term) → Each (TermSkips k p q) ts → any_true (map (has_variable k) ts) ≡ false → map (renamed p) (map (lowered_term k) ts) ≡ map (renamed q) ts
+args_skip : (k : ℕ) (p q : ℕ → ℕ) (ts : List Term) → ForEach (TermSkips k p q) ts → any_true (map (has_variable k) ts) ≡ false → map (renamed p) (map (lowered_term k) ts) ≡ map (renamed q) ts
 args_skip k p q [] h o = refl
 args_skip k p q (t ∷ ts) h o =
     ap₂ (λ x xs. x ∷ xs) (h.0 (left_false (has_variable k t) (any_true (map (has_variable k) ts)) o))
@@ -106,7 +107,7 @@ form_skips = form_induction FormSkips
     (λ k p q s o. ap (λ x. renamed_form x p) (lowered-False k) ∙ renamed-False p ∙ sym (renamed-False q))
     (λ l k p q s o.
     ap (λ x. renamed_form x p) (lowered-Lit k l) ∙ renamed-Lit p (lowered_literal k l)
-    ∙ ap (λ args. nf.Lit (record { positive = l.positive; pred = l.pred; args = args })) (args_skip k p q l.args (each_of (TermSkips k p q) (term_skips k p q s) l.args) (sym (in-Lit k l) ∙ o))
+    ∙ ap (λ args. nf.Lit (record { positive = l.positive; pred = l.pred; args = args })) (args_skip k p q l.args (for_each (TermSkips k p q) (term_skips k p q s) l.args) (sym (in-Lit k l) ∙ o))
     ∙ sym (renamed-Lit q l))
     (λ a b g h k p q s o.
     let n = sym (in-And k a b) ∙ o in
@@ -132,7 +133,7 @@ same_under : (p : ℕ → ℕ) → Same p → Same (under p)
 same_under p same zero = refl
 same_under p same (suc n) = ap suc (same n)
 
-args_stay : (p : ℕ → ℕ) (ts : List Term) → Each (λ t. renamed p t ≡ t) ts → map (renamed p) ts ≡ ts
+args_stay : (p : ℕ → ℕ) (ts : List Term) → ForEach (λ t. renamed p t ≡ t) ts → map (renamed p) ts ≡ ts
 args_stay p [] h = refl
 args_stay p (t ∷ ts) h = ap₂ (λ x xs. x ∷ xs) h.0 (args_stay p ts h.1)
 
@@ -148,7 +149,7 @@ form_stays = form_induction (λ a. (p : ℕ → ℕ) → Same p → renamed_form
     (λ p same. renamed-False p)
     (λ l p same.
     renamed-Lit p l
-    ∙ ap (λ args. nf.Lit (record { positive = l.positive; pred = l.pred; args = args })) (args_stay p l.args (each_of (λ t. renamed p t ≡ t) (term_stays p same) l.args)))
+    ∙ ap (λ args. nf.Lit (record { positive = l.positive; pred = l.pred; args = args })) (args_stay p l.args (for_each (λ t. renamed p t ≡ t) (term_stays p same) l.args)))
     (λ a b g h p same. renamed-And p a b ∙ ap₂ (λ x y. nf.And x y) (g p same) (h p same))
     (λ a b g h p same. renamed-Or p a b ∙ ap₂ (λ x y. nf.Or x y) (g p same) (h p same))
     (λ a g p same. renamed-All p a ∙ ap nf.All (g (under p) (same_under p same)))

@@ -13,6 +13,7 @@ pub mod FormInduction
 pub mod FormLaws
 pub mod FormulaEquations
 pub mod ListTotals
+pub mod LayerLaws
 pub mod LoweringLaws
 pub mod MarkLaws
 pub mod MatrixLaws
@@ -29,4 +30,5 @@ pub mod SoundLists
 pub mod StableSorts
 pub mod Steps
 pub mod SufficientLists
+pub mod TiedOrders
 pub mod TruthLaws

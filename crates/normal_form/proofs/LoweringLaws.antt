@@ -3,7 +3,8 @@ use Rattle.std.proofs.Common.{◌≡◌, ℕ, zero, suc, ◌-◌, ◌<◌, ◌�
 use mathlib.Core.Path.{fun_ext}
 use Rattle.std.proofs.lemmas.Bool.Decides.{nat_tests}
 use Rattle.std.proofs.lemmas.Grind.{common_steps}
-use Rattle.dk_syntax.proofs.TermLaws.{Each, each_of, term_induction}
+use Rattle.dk_syntax.proofs.ListLaws.{ForEach, for_each}
+use Rattle.dk_syntax.proofs.TermLaws.{term_induction}
 use Rattle.dk_syntax.specs.declared.Term.{Term, Var}
 use Rattle.normal_form.proofs.BoolLaws.{left_false, right_false, test_cases}
 use Rattle.normal_form.proofs.FormEquations.{in-All, in-And, in-Any, in-App, in-Ex, in-False, in-Lit, in-Or, in-True, in-Var, lowered-All, lowered-And, lowered-Any, lowered-App, lowered-Ex, lowered-False, lowered-Lit, lowered-Or, lowered-True, lowered-Var, nodes-Lit, truth-All, truth-And, truth-Ex, truth-False, truth-Lit, truth-Or, truth-True, value-Any, value-App, value-Var}
@@ -38,7 +39,7 @@ var_lowers i k d e (suc n) o = elim (test_cases (nat_lt k (suc n))) [
       ap (value i e) (lowered-Var k (suc n) ∙ ap (λ x. if x then Var (suc n - 1) else Var (suc n)) p) ∙ value-Var i e (suc n) ∙ sym (put_below k (suc n) d e b) ∙ sym (value-Var i (put_value k d e) (suc n))
 ]
 
-args_lower : {D : Type 0} (i : Interpretation D) (k : ℕ) (d : D) (e : ℕ → D) (ts : List Term) → Each (TermLowers i k d e) ts → any_true (map (has_variable k) ts) ≡ false → map (value i e) (map (lowered_term k) ts) ≡ map (value i (put_value k d e)) ts
+args_lower : {D : Type 0} (i : Interpretation D) (k : ℕ) (d : D) (e : ℕ → D) (ts : List Term) → ForEach (TermLowers i k d e) ts → any_true (map (has_variable k) ts) ≡ false → map (value i e) (map (lowered_term k) ts) ≡ map (value i (put_value k d e)) ts
 args_lower i k d e [] h o = refl
 args_lower i k d e (t ∷ ts) h o =
     let a = h.0 (left_false (has_variable k t) (any_true (map (has_variable k) ts)) o) in
@@ -53,7 +54,7 @@ term_lowers i k d e = term_induction (TermLowers i k d e)
     (λ o. ap (value i e) (lowered-Any k) ∙ value-Any i e ∙ sym (value-Any i (put_value k d e)))
 
 terms_lower : {D : Type 0} (i : Interpretation D) (k : ℕ) (d : D) (e : ℕ → D) (ts : List Term) → any_true (map (has_variable k) ts) ≡ false → map (value i e) (map (lowered_term k) ts) ≡ map (value i (put_value k d e)) ts
-terms_lower i k d e ts = args_lower i k d e ts (each_of (TermLowers i k d e) (term_lowers i k d e) ts)
+terms_lower i k d e ts = args_lower i k d e ts (for_each (TermLowers i k d e) (term_lowers i k d e) ts)
 
 -- the same of forms
 abbrev pub FormLowers : {D : Type 0} (i : Interpretation D) → Nf → Type 0
@@ -116,7 +117,7 @@ var_moves j k n b o =
           ∙ (let h : nat_eq n k ≡ nat_eq n (suc k) = grind (arith, nat_tests) in h) ∙ sym (in-Var (suc k) n)
     ]
 
-args_move : (j k : ℕ) (ts : List Term) → Each (TermMoves j k) ts → j ≤ k → any_true (map (has_variable j) ts) ≡ false → any_true (map (has_variable k) (map (lowered_term j) ts)) ≡ any_true (map (has_variable (suc k)) ts)
+args_move : (j k : ℕ) (ts : List Term) → ForEach (TermMoves j k) ts → j ≤ k → any_true (map (has_variable j) ts) ≡ false → any_true (map (has_variable k) (map (lowered_term j) ts)) ≡ any_true (map (has_variable (suc k)) ts)
 args_move j k [] h b o = refl
 args_move j k (t ∷ ts) h b o =
     ap₂ (λ x y. x || y) (h.0 b (left_false (has_variable j t) (any_true (map (has_variable j) ts)) o))
@@ -139,7 +140,7 @@ form_moves = form_induction FormMoves
     (λ j k b o. ap (λ a. in_form a k) (lowered-False j) ∙ in-False k ∙ sym (in-False (suc k)))
     (λ l j k b o.
     ap (λ a. in_form a k) (lowered-Lit j l) ∙ in-Lit k (lowered_literal j l)
-    ∙ args_move j k l.args (each_of (TermMoves j k) (term_moves j k) l.args) b (sym (in-Lit j l) ∙ o) ∙ sym (in-Lit (suc k) l))
+    ∙ args_move j k l.args (for_each (TermMoves j k) (term_moves j k) l.args) b (sym (in-Lit j l) ∙ o) ∙ sym (in-Lit (suc k) l))
     (λ a c g h j k b o.
     let n = sym (in-And j a c) ∙ o in
     ap (λ x. in_form x k) (lowered-And j a c) ∙ in-And k (lowered a j) (lowered c j)

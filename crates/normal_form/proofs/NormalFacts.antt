@@ -3,7 +3,8 @@ use Rattle.std.proofs.Common.{◌≡◌, ◌<◌, ◌≤◌, ℕ, zero, suc, ◌
 use Rattle.std.proofs.lemmas.Bool.Decides.{nat_tests}
 use Rattle.std.proofs.lemmas.List.{length-map}
 use Rattle.dk_syntax.proofs.FormulaLaws.{formula_induction}
-use Rattle.dk_syntax.proofs.TermLaws.{Each, each_of, term_induction}
+use Rattle.dk_syntax.proofs.ListLaws.{ForEach, for_each}
+use Rattle.dk_syntax.proofs.TermLaws.{term_induction}
 use Rattle.dk_syntax.proofs.WellFormedLaws.{closed-All, closed-And, closed-App, closed-Atom, closed-Ex, closed-Iff, closed-Imp, closed-Not, closed-Or, closed-Var, well_formed-All, well_formed-And, well_formed-App, well_formed-Atom, well_formed-Ex, well_formed-Iff, well_formed-Imp, well_formed-Not, well_formed-Or, well_formed-Var}
 use Rattle.dk_syntax.specs.WellFormed.{all_true, closed_under, fits_symbol, IsWellFormed, term_closed_under, well_formed, well_formed_literal, well_formed_term}
 use Rattle.dk_syntax.specs.declared.Formula.{Formula}
@@ -33,7 +34,7 @@ use Rattle.normal_form.specs.declared.form.Nf.TheVariants as nf
 abbrev IsWithout : ℕ → ℕ → Term → Type 0
 IsWithout level k t = term_closed_under level t ≡ true → has_variable k t ≡ false
 
-args_without : (level k : ℕ) (ts : List Term) → Each (IsWithout level k) ts → all_true (map (term_closed_under level) ts) ≡ true → any_true (map (has_variable k) ts) ≡ false
+args_without : (level k : ℕ) (ts : List Term) → ForEach (IsWithout level k) ts → all_true (map (term_closed_under level) ts) ≡ true → any_true (map (has_variable k) ts) ≡ false
 args_without level k [] h w = refl
 args_without level k (t ∷ ts) h w =
     ap₂ (λ a b. a || b) (h.0 (and_left (term_closed_under level t) (all_true (map (term_closed_under level) ts)) w))
@@ -57,7 +58,7 @@ formula_without : (f : Formula) → HasNone f
 formula_without = formula_induction HasNone
     (λ level k far w. occurs-True k)
     (λ level k far w. occurs-False k)
-    (λ s args level k far w. occurs-Atom k s args ∙ args_without level k args (each_of (IsWithout level k) (term_without level k far) args) (sym (closed-Atom s args level) ∙ w))
+    (λ s args level k far w. occurs-Atom k s args ∙ args_without level k args (for_each (IsWithout level k) (term_without level k far) args) (sym (closed-Atom s args level) ∙ w))
     (λ a h level k far w. occurs-Not k a ∙ h level k far (sym (closed-Not a level) ∙ w))
     (λ a b g h level k far w. occurs-And k a b ∙ none_of_two a b g h level k far (sym (closed-And a b level) ∙ w))
     (λ a b g h level k far w. occurs-Or k a b ∙ none_of_two a b g h level k far (sym (closed-Or a b level) ∙ w))
@@ -94,7 +95,7 @@ free_is = form_induction (λ a. (k : ℕ) → free k (form_of a) ≡ in_form a k
 abbrev StaysBelow : ℕ → ℕ → Term → Type 0
 StaysBelow j k t = has_variable k (lowered_term j t) ≡ has_variable k t
 
-args_below : (j k : ℕ) (ts : List Term) → Each (StaysBelow j k) ts → any_true (map (has_variable k) (map (lowered_term j) ts)) ≡ any_true (map (has_variable k) ts)
+args_below : (j k : ℕ) (ts : List Term) → ForEach (StaysBelow j k) ts → any_true (map (has_variable k) (map (lowered_term j) ts)) ≡ any_true (map (has_variable k) ts)
 args_below j k [] h = refl
 args_below j k (t ∷ ts) h = ap₂ (λ x y. x || y) h.0 (args_below j k ts h.1)
 
@@ -116,7 +117,7 @@ form_below : (a : Nf) (j k : ℕ) → k < j → in_form (lowered a j) k ≡ in_f
 form_below = form_induction (λ a. (j k : ℕ) → k < j → in_form (lowered a j) k ≡ in_form a k)
     (λ j k b. ap (λ a. in_form a k) (lowered-True j))
     (λ j k b. ap (λ a. in_form a k) (lowered-False j))
-    (λ l j k b. ap (λ a. in_form a k) (lowered-Lit j l) ∙ in-Lit k (lowered_literal j l) ∙ args_below j k l.args (each_of (StaysBelow j k) (term_below j k b) l.args) ∙ sym (in-Lit k l))
+    (λ l j k b. ap (λ a. in_form a k) (lowered-Lit j l) ∙ in-Lit k (lowered_literal j l) ∙ args_below j k l.args (for_each (StaysBelow j k) (term_below j k b) l.args) ∙ sym (in-Lit k l))
     (λ a c g h j k b. ap (λ x. in_form x k) (lowered-And j a c) ∙ in-And k (lowered a j) (lowered c j) ∙ ap₂ (λ x y. x || y) (g j k b) (h j k b) ∙ sym (in-And k a c))
     (λ a c g h j k b. ap (λ x. in_form x k) (lowered-Or j a c) ∙ in-Or k (lowered a j) (lowered c j) ∙ ap₂ (λ x y. x || y) (g j k b) (h j k b) ∙ sym (in-Or k a c))
     (λ a g j k b. ap (λ x. in_form x k) (lowered-All j a) ∙ in-All k (lowered a (suc j)) ∙ g (suc j) (suc k) (omega (arith, b)) ∙ sym (in-All k a))
@@ -196,7 +197,7 @@ none_is_vacuous f sign =
 abbrev StaysFormed : ℕ → Term → Type 0
 StaysFormed j t = well_formed_term (lowered_term j t) ≡ well_formed_term t
 
-args_formed : (j : ℕ) (ts : List Term) → Each (StaysFormed j) ts → all_true (map well_formed_term (map (lowered_term j) ts)) ≡ all_true (map well_formed_term ts)
+args_formed : (j : ℕ) (ts : List Term) → ForEach (StaysFormed j) ts → all_true (map well_formed_term (map (lowered_term j) ts)) ≡ all_true (map well_formed_term ts)
 args_formed j [] h = refl
 args_formed j (t ∷ ts) h = ap₂ (λ x y. x && y) h.0 (args_formed j ts h.1)
 
@@ -213,7 +214,7 @@ term_formed j = term_induction (StaysFormed j)
 
 literal_formed : (j : ℕ) (l : Literal) → well_formed_literal (lowered_literal j l) ≡ well_formed_literal l
 literal_formed j l =
-    ap₂ (λ n b. fits_symbol Predicate l.pred n && b) (length-map l.args (lowered_term j)) (args_formed j l.args (each_of (StaysFormed j) (term_formed j) l.args))
+    ap₂ (λ n b. fits_symbol Predicate l.pred n && b) (length-map l.args (lowered_term j)) (args_formed j l.args (for_each (StaysFormed j) (term_formed j) l.args))
 
 abbrev IsFormed : Nf → Type 0
 IsFormed a = HasWellFormedLiterals (form_of a)

@@ -6,7 +6,8 @@ use Rattle.std.specs.Cmp.Lexicographic.{slice_cmp}
 use Rattle.std.specs.Ordering.{nat_cmp, ordering_reverse, ordering_then}
 use Rattle.std.specs.declared.cmp.Ordering.{Ordering}
 use Rattle.std.specs.declared.cmp.Ordering.TheVariants.{Equal, Greater, Less}
-use Rattle.dk_syntax.proofs.TermLaws.{Each, each_of, term_induction}
+use Rattle.dk_syntax.proofs.ListLaws.{ForEach, for_each}
+use Rattle.dk_syntax.proofs.TermLaws.{term_induction}
 use Rattle.dk_syntax.specs.Order.{compared}
 use Rattle.dk_syntax.specs.declared.Kind.{Kind}
 use Rattle.dk_syntax.specs.declared.Kind.TheVariants.{Function, Predicate}
@@ -21,6 +22,7 @@ use Rattle.normal_form.specs.Sorting.{form_order, is_after}
 use Rattle.normal_form.proofs.Canonical.{after, sorting_is_canonical}
 use Rattle.normal_form.proofs.Shuffles.{SortingIsCanonical}
 use Rattle.normal_form.proofs.Sorts.{IsExact}
+use Rattle.normal_form.proofs.TiedOrders.{then_equal, then_then}
 
 abbrev lists : List ℕ → List ℕ → Ordering
 lists = slice_cmp nat_cmp
@@ -28,16 +30,6 @@ lists = slice_cmp nat_cmp
 -- two codes are in that order, whatever follows them
 abbrev Codes : List ℕ → List ℕ → Ordering → Type 0
 Codes a b o = (k l : List ℕ) → lists (a ++ k) (b ++ l) ≡ ordering_then o (lists k l)
-
-then_then : (a b c : Ordering) → ordering_then (ordering_then a b) c ≡ ordering_then a (ordering_then b c)
-then_then Less b c = refl
-then_then Equal b c = refl
-then_then Greater b c = refl
-
-then_equal : (a : Ordering) → ordering_then a Equal ≡ a
-then_equal Less = refl
-then_equal Equal = refl
-then_equal Greater = refl
 
 then_parts : (a b : Ordering) → ordering_then a b ≡ Equal → (a ≡ Equal) × (b ≡ Equal)
 then_parts Less b h = cc
@@ -53,14 +45,14 @@ list_code [] = 0 ∷ []
 list_code (a ∷ l) = 1 ∷ (a ++ list_code l)
 
 module _ {X : Type 0} (code : X → List ℕ) (order : X → X → Ordering) where
-  codes_list : (xs ys : List X) → Each (λ x. (y : X) → Codes (code x) (code y) (order x y)) xs → Codes (list_code (map code xs)) (list_code (map code ys)) (slice_cmp order xs ys)
+  codes_list : (xs ys : List X) → ForEach (λ x. (y : X) → Codes (code x) (code y) (order x y)) xs → Codes (list_code (map code xs)) (list_code (map code ys)) (slice_cmp order xs ys)
   codes_list [] [] h = λ k l. refl
   codes_list [] (y ∷ ys) h = λ k l. refl
   codes_list (x ∷ xs) [] h = λ k l. refl
   codes_list (x ∷ xs) (y ∷ ys) h =
       codes_pair (code x) (code y) (list_code (map code xs)) (list_code (map code ys)) (order x y) (slice_cmp order xs ys) (h.0 y) (codes_list xs ys h.1)
 
-  exact_list : (xs ys : List X) → Each (λ x. (y : X) → order x y ≡ Equal → x ≡ y) xs → slice_cmp order xs ys ≡ Equal → xs ≡ ys
+  exact_list : (xs ys : List X) → ForEach (λ x. (y : X) → order x y ≡ Equal → x ≡ y) xs → slice_cmp order xs ys ≡ Equal → xs ≡ ys
   exact_list [] [] h w = refl
   exact_list [] (y ∷ ys) h w = cc
   exact_list (x ∷ xs) [] h w = cc
@@ -116,7 +108,7 @@ symbol_codes : (f g : SymKey) → Codes (symbol_code f) (symbol_code g) (symbol_
 symbol_codes f g =
     codes_pair (list_code (map number_code f.name)) (list_code (map number_code g.name)) (number_code f.arity ++ kind_code f.kind) (number_code g.arity ++ kind_code g.kind)
     (slice_cmp nat_cmp f.name g.name) (ordering_then (nat_cmp f.arity g.arity) (kind_order f.kind g.kind))
-    (codes_list number_code nat_cmp f.name g.name (each_of (λ x. (y : ℕ) → Codes (number_code x) (number_code y) (nat_cmp x y)) number_codes f.name))
+    (codes_list number_code nat_cmp f.name g.name (for_each (λ x. (y : ℕ) → Codes (number_code x) (number_code y) (nat_cmp x y)) number_codes f.name))
     (codes_pair (number_code f.arity) (number_code g.arity) (kind_code f.kind) (kind_code g.kind) (nat_cmp f.arity g.arity) (kind_order f.kind g.kind) (number_codes f.arity g.arity) (kind_codes f.kind g.kind))
 
 abbrev symbol : List ℕ → ℕ → Kind → SymKey
@@ -126,7 +118,7 @@ symbol_exact : (f g : SymKey) → symbol_order f g ≡ Equal → f ≡ g
 symbol_exact f g h =
     let p = then_parts (slice_cmp nat_cmp f.name g.name) (ordering_then (nat_cmp f.arity g.arity) (kind_order f.kind g.kind)) h in
     let q = then_parts (nat_cmp f.arity g.arity) (kind_order f.kind g.kind) p.1 in
-    ap (λ x. symbol x f.arity f.kind) (exact_list number_code nat_cmp f.name g.name (each_of (λ x. (y : ℕ) → nat_cmp x y ≡ Equal → x ≡ y) number_exact f.name) p.0)
+    ap (λ x. symbol x f.arity f.kind) (exact_list number_code nat_cmp f.name g.name (for_each (λ x. (y : ℕ) → nat_cmp x y ≡ Equal → x ≡ y) number_exact f.name) p.0)
     ∙ ap (λ x. symbol g.name x f.kind) (number_exact f.arity g.arity q.0) ∙ ap (symbol g.name g.arity) (kind_exact f.kind g.kind q.1)
 
 -- ---- terms
@@ -245,7 +237,7 @@ literal_codes l m =
     codes_pair (sign_code l.positive) (sign_code m.positive) (symbol_code l.pred ++ list_code (map code l.args)) (symbol_code m.pred ++ list_code (map code m.args))
     (sign_order l.positive m.positive) (ordering_then (symbol_order l.pred m.pred) (slice_cmp argument_order l.args m.args)) (sign_codes l.positive m.positive)
     (codes_pair (symbol_code l.pred) (symbol_code m.pred) (list_code (map code l.args)) (list_code (map code m.args)) (symbol_order l.pred m.pred) (slice_cmp argument_order l.args m.args)
-    (symbol_codes l.pred m.pred) (codes_list code argument_order l.args m.args (each_of HasCode term_codes l.args)))
+    (symbol_codes l.pred m.pred) (codes_list code argument_order l.args m.args (for_each HasCode term_codes l.args)))
 
 abbrev literal : Bool → SymKey → List Term → Literal
 literal positive pred args = record { positive = positive; pred = pred; args = args }
@@ -256,7 +248,7 @@ literal_exact l m h =
     let q = then_parts (symbol_order l.pred m.pred) (slice_cmp argument_order l.args m.args) p.1 in
     ap (λ x. literal x l.pred l.args) (sign_exact l.positive m.positive p.0)
     ∙ ap (λ x. literal m.positive x l.args) (symbol_exact l.pred m.pred q.0)
-    ∙ ap (literal m.positive m.pred) (exact_list code argument_order l.args m.args (each_of IsAlone term_exact l.args) q.1)
+    ∙ ap (literal m.positive m.pred) (exact_list code argument_order l.args m.args (for_each IsAlone term_exact l.args) q.1)
 
 abbrev form_code : Form → List ℕ
 form_code yes = 0 ∷ []

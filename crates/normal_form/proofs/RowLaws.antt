@@ -1,7 +1,8 @@
 -- What the rows of a clause list say of the form: picks are sides of conjunctions, quants the universals of variables.
 use Rattle.std.proofs.Common.{◌≡◌, ◌<◌, ℕ, suc, ◌+◌, inl, inr, true, false, ◌||◌, nat_eq, nat_lt, if◌then◌else◌, List, [], ◌∷◌, ◌++◌, length, map, refl, sym, ap, ap₂, ◌∙◌, subst, arith, rules}
 use Rattle.std.proofs.lemmas.Bool.Decides.{nat_tests}
-use Rattle.dk_syntax.proofs.TermLaws.{Each, each_of, term_induction}
+use Rattle.dk_syntax.proofs.ListLaws.{ForEach, for_each}
+use Rattle.dk_syntax.proofs.TermLaws.{term_induction}
 use Rattle.dk_syntax.proofs.WellFormedLaws.{closed-Any, closed-App, closed-Var}
 use Rattle.dk_syntax.specs.Lists.{Every, every_cons, every_nil}
 use Rattle.dk_syntax.specs.Symbols.{joined}
@@ -55,7 +56,7 @@ module _ (ns : List ℕ) where
   abbrev ComesBack : Term → Type 0
   ComesBack t = IsListed t → renamed (owner ns) (renamed (place_of ns) t) ≡ t
 
-  args_back : (ts : List Term) → Each ComesBack ts → AreListed ts → map (renamed (owner ns)) (map (renamed (place_of ns)) ts) ≡ ts
+  args_back : (ts : List Term) → ForEach ComesBack ts → AreListed ts → map (renamed (owner ns)) (map (renamed (place_of ns)) ts) ≡ ts
   args_back [] h w = refl
   args_back (t ∷ ts) h w = ap₂ (λ x xs. x ∷ xs) (h.0 (first_listed t ts w)) (args_back ts h.1 (rest_listed t ts w))
 
@@ -72,7 +73,7 @@ module _ (ns : List ℕ) where
   abbrev IsNumbered : Term → Type 0
   IsNumbered t = IsListed t → term_closed_under (length ns) (renamed (place_of ns) t) ≡ true
 
-  args_numbered : (ts : List Term) → Each IsNumbered ts → AreListed ts → all_true (map (term_closed_under (length ns)) (map (renamed (place_of ns)) ts)) ≡ true
+  args_numbered : (ts : List Term) → ForEach IsNumbered ts → AreListed ts → all_true (map (term_closed_under (length ns)) (map (renamed (place_of ns)) ts)) ≡ true
   args_numbered [] h w = refl
   args_numbered (t ∷ ts) h w =
       and_both (term_closed_under (length ns) (renamed (place_of ns) t)) (all_true (map (term_closed_under (length ns)) (map (renamed (place_of ns)) ts)))
@@ -112,13 +113,13 @@ module _ (ns : List ℕ) where
   lits_back : (lits : List Literal) → LitsListed lits → map (renamed_literal (owner ns)) (map (renamed_literal (place_of ns)) lits) ≡ lits
   lits_back [] h = refl
   lits_back (l ∷ lits) h =
-      ap₂ (λ x xs. x ∷ xs) (ap (with_args l) (args_back l.args (each_of ComesBack term_back l.args) (of_first l lits h))) (lits_back lits (of_rest l lits h))
+      ap₂ (λ x xs. x ∷ xs) (ap (with_args l) (args_back l.args (for_each ComesBack term_back l.args) (of_first l lits h))) (lits_back lits (of_rest l lits h))
 
   lits_numbered : (lits : List Literal) → LitsListed lits → all_true (map (literal_closed_under (length ns)) (map (renamed_literal (place_of ns)) lits)) ≡ true
   lits_numbered [] h = refl
   lits_numbered (l ∷ lits) h =
       and_both (literal_closed_under (length ns) (renamed_literal (place_of ns) l)) (all_true (map (literal_closed_under (length ns)) (map (renamed_literal (place_of ns)) lits)))
-      (args_numbered l.args (each_of IsNumbered term_numbered l.args) (of_first l lits h)) (lits_numbered lits (of_rest l lits h))
+      (args_numbered l.args (for_each IsNumbered term_numbered l.args) (of_first l lits h)) (lits_numbered lits (of_rest l lits h))
 
 -- ---- lists
 

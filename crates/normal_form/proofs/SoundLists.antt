@@ -1,7 +1,8 @@
 -- Where a form is true, the clauses of its list are.
 use Rattle.std.proofs.Common.{◌≡◌, ℕ, zero, suc, ◌+◌, Bool, true, false, ◌&&◌, ◌||◌, List, [], ◌∷◌, ◌++◌, map, refl, subst, sym, ap, ap₂, ◌∙◌, rules}
 use mathlib.Core.Path.{fun_ext}
-use Rattle.dk_syntax.proofs.TermLaws.{Each, each_of, term_induction}
+use Rattle.dk_syntax.proofs.ListLaws.{ForEach, for_each}
+use Rattle.dk_syntax.proofs.TermLaws.{term_induction}
 use Rattle.dk_syntax.specs.declared.Literal.{Literal}
 use Rattle.dk_syntax.specs.declared.Term.{Any, App, Term, Var, the_lemmas as of_terms}
 use Rattle.normal_form.proofs.BoolLaws.{and_both, and_left, and_or, and_right, and_step, or_and, or_left_step, or_map, or_true}
@@ -45,7 +46,7 @@ module _ {D : Type 0} (i : Interpretation D) (w : ℕ → D) where
   abbrev pub RenamedValue : (r : ℕ → ℕ) → Term → Type 0
   RenamedValue r t = value i w (renamed r t) ≡ value i (λ n. w (r n)) t
 
-  renamed-values : (r : ℕ → ℕ) (ts : List Term) → Each (RenamedValue r) ts → map (value i w) (map (renamed r) ts) ≡ map (value i (λ n. w (r n))) ts
+  renamed-values : (r : ℕ → ℕ) (ts : List Term) → ForEach (RenamedValue r) ts → map (value i w) (map (renamed r) ts) ≡ map (value i (λ n. w (r n))) ts
   renamed-values r [] h = refl
   renamed-values r (t ∷ ts) h = ap₂ (λ x xs. x ∷ xs) h.0 (renamed-values r ts h.1)
 
@@ -56,7 +57,7 @@ module _ {D : Type 0} (i : Interpretation D) (w : ℕ → D) where
       (ap (value i w) (let q : renamed r Any ≡ Any = search (rules, of_terms) in q) ∙ value-Any i w ∙ sym (value-Any i (λ n. w (r n))))
 
   pub literal-renamed : (r : ℕ → ℕ) (l : Literal) → literal_truth i w (renamed_literal r l) ≡ literal_truth i (λ n. w (r n)) l
-  literal-renamed r l = ap (λ vs. signed l.positive (i.predicate l.pred vs)) (renamed-values r l.args (each_of (RenamedValue r) (renamed-value r) l.args))
+  literal-renamed r l = ap (λ vs. signed l.positive (i.predicate l.pred vs)) (renamed-values r l.args (for_each (RenamedValue r) (renamed-value r) l.args))
 
   next_value : (next : ℕ) (around : List ℕ) (n : ℕ) → with_value (w next) (λ m. w (owner around m)) n ≡ w (owner (next ∷ around) n)
   next_value next around zero = refl

@@ -6,6 +6,7 @@ pub mod Faults
 pub mod FormFacts
 pub mod Forms
 pub mod Laws
+pub mod Layers
 pub mod LiteralOrder
 pub mod Lowered
 pub mod Marks

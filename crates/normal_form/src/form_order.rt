@@ -1,5 +1,5 @@
 //! The order of forms.
-#![tactic(auto, using(crate::proofs::Steps::work_steps))]
+#![tactic(auto, using(crate::proofs::TiedOrders::order_steps))]
 
 ghost use Rattle.std.specs.Prelude.{◌≡◌};
 ghost use Rattle.normal_form.specs.Sorting.{form_order, rank_of};
@@ -9,23 +9,28 @@ use crate::literal_order::literal_order;
 use crate::work::Work;
 use std::cmp::Ordering;
 
-/// The order of two forms, whatever their numbers.
+/// The order of two forms, whatever their numbers. It is found by a loop along their left parts, which decide first:
+/// `after` is the order of the right parts that were met, the inmost first.
 pub fn form_order(a: &Work, b: &Work) -> Ordering
     ensures { result ≡ form_order (bare_of a.now) (bare_of b.now) }
 {
-    match (a, b) {
-        (Work::Lit(l), Work::Lit(m)) => literal_order(l, m),
-        (Work::And(a, b), Work::And(c, d)) => match form_order(a.get(), c.get()) {
-            Ordering::Equal => form_order(b.get(), d.get()),
-            other => other,
-        },
-        (Work::Or(a, b), Work::Or(c, d)) => match form_order(a.get(), c.get()) {
-            Ordering::Equal => form_order(b.get(), d.get()),
-            other => other,
-        },
-        (Work::All(_, a), Work::All(_, b)) => form_order(a.get(), b.get()),
-        (Work::Ex(_, a), Work::Ex(_, b)) => form_order(a.get(), b.get()),
-        _ => rank(a).cmp(&rank(b)),
+    let mut left = a;
+    let mut right = b;
+    let mut after = Ordering::Equal;
+    loop {
+        match (left, right) {
+            (Work::And(a, c), Work::And(b, d)) | (Work::Or(a, c), Work::Or(b, d)) => {
+                after = form_order(c.get(), d.get()).then(after);
+                left = a.get();
+                right = b.get();
+            }
+            (Work::All(_, a), Work::All(_, b)) | (Work::Ex(_, a), Work::Ex(_, b)) => {
+                left = a.get();
+                right = b.get();
+            }
+            (Work::Lit(l), Work::Lit(m)) => return literal_order(l, m).then(after),
+            _ => return rank(left).cmp(&rank(right)).then(after),
+        }
     }
 }
 

@@ -16,13 +16,16 @@
 //! equivalences have doubled their sides: one walk marks the quantifiers whose variables don't occur, and the
 //! next leaves them out and numbers the variables as it meets them. A clause list takes time linear in the form
 //! and the list: what lists nothing is left out before any clause is made, a clause is copied only where two
-//! come of it, and universals are looked up by hashes. All goes down the trees by recursion, also down a sorted chain,
-//! which is as deep as it has members.
+//! come of it, and universals are looked up by hashes. All goes down the trees by recursion, but sorting, comparing,
+//! copying and dropping go along the left parts by loops, since a sorted chain is nested to the left as deep as
+//! it has members.
 //!
 //! Laws for the crates above stand in `proofs/FormInduction` (induction over normal forms), `proofs/FormEquations`
 //! (what the definitions say of each kind of form), `proofs/FormLaws` (a form and its tree), `proofs/Shuffles` (numbered
-//! forms that differ by order and grouping), `proofs/Orders` (sorting tells just these), `proofs/NormalFacts` (what normal
-//! forms keep of formulas) and `proofs/RowLaws` (what rows say of the form).
+//! forms that differ by order and grouping), `proofs/Regroups` (their sorted forms are one), `proofs/Sorts` and
+//! `proofs/StableSorts` (sorting, ties kept in place), `proofs/Orders` (sorting tells just these), `proofs/NormalFacts`
+//! (what normal forms keep of formulas), `proofs/RowLaws` (what rows say of the form) and `proofs/ListTotals` (how many
+//! clauses and literals a list has).
 #![tactic(auto)]
 
 mod chain;
@@ -32,6 +35,7 @@ mod draft;
 mod form;
 mod form_order;
 mod laws;
+mod layer;
 mod literal_order;
 mod marks;
 mod matrix;

@@ -1,7 +1,7 @@
 //! Sorted forms.
 #![tactic(auto, using(crate::proofs::ChainLaws::sorting_steps))]
 
-ghost use Rattle.std.specs.Prelude.{◌≡◌, ◌+◌, ◌++◌, map, true, false, IfOk, OnOk};
+ghost use Rattle.std.specs.Prelude.{◌≡◌, ◌+◌, ◌++◌, map, reverse, true, false, IfOk, OnOk};
 ghost use Rattle.normal_form.specs.Forms.{alls, exs, form_of};
 ghost use Rattle.normal_form.specs.Sorting.{IsSorted, numbered_from, sorted};
 ghost use Rattle.normal_form.specs.Works.{numbered_of, sorted_members};
@@ -9,7 +9,7 @@ ghost use Rattle.normal_form.specs.Works.{numbered_of, sorted_members};
 use crate::chain::chained;
 use crate::form::Nf;
 use crate::rename::inside;
-use crate::work::{Numbers, Work, boxed_work, without_numbers};
+use crate::work::{Numbers, Work, boxed_work};
 use dk_syntax::{Boxed, NoMemory, Seq};
 use std::alloc::Global;
 
@@ -37,16 +37,24 @@ pub fn sorted_of(alloc: Global, nf: &Nf) -> Result<Sorted, NoMemory>
     let mut next = Next { all: 0, ex: 0 };
     let work = sort(alloc, nf, &mut next)?;
     let mut numbers = Numbers {
-        alls: Seq::from_vec(Vec::new(alloc)),
-        exs: Seq::from_vec(Vec::new(alloc)),
+        alls: Seq::new(alloc),
+        exs: Seq::new(alloc),
     };
-    let form = without_numbers(alloc, work, &mut numbers)?;
+    let form = work.into_inner().without_numbers(alloc, &mut numbers)?;
     let Numbers { alls, exs } = numbers;
     Ok(Sorted {
         form: form.into_inner(),
-        alls,
-        exs,
+        alls: reversed(alls),
+        exs: reversed(exs),
     })
+}
+
+fn reversed(numbers: Seq<u32>) -> Seq<u32>
+    ensures { result ≡ reverse numbers }
+{
+    let mut numbers = numbers.into_vec();
+    numbers.reverse();
+    Seq::from_vec(numbers)
 }
 
 /// The form with its numbers, sorted.

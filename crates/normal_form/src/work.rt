@@ -1,17 +1,17 @@
 //! Forms while they are sorted.
-#![tactic(auto, using(crate::proofs::Steps::work_steps))]
+#![tactic(auto, using(crate::proofs::Steps::unnumbering_steps))]
 
-ghost use Rattle.std.specs.Prelude.{◌≡◌, ◌++◌, if◌then◌else◌, IfOk, OnOk};
+ghost use Rattle.std.specs.Prelude.{◌≡◌, ◌++◌, if◌then◌else◌, reverse, IfOk, OnOk};
 ghost use Rattle.normal_form.specs.Forms.{nf_of};
 ghost use Rattle.normal_form.specs.Sorting.{bare, existentials, universals};
 ghost use Rattle.normal_form.specs.Works.{numbered_of};
 
-use crate::form::{Nf, boxed};
+use crate::form::Nf;
+use crate::layer::{Layer, within_all};
 use dk_syntax::{Boxed, Literal, NoMemory, Seq};
 use std::alloc::Global;
 
 /// A form with a number at each quantifier.
-#[derive(Drop)]
 pub enum Work {
     True,
     False,
@@ -22,7 +22,7 @@ pub enum Work {
     Ex(u32, Boxed<Work>),
 }
 
-/// The quantifiers' numbers, in preorder.
+/// Numbers of universals, and of existentials.
 #[derive(Drop)]
 pub struct Numbers {
     pub alls: Seq<u32>,
@@ -50,40 +50,63 @@ pub fn joined(
     boxed_work(alloc, Work::Or(a, b))
 }
 
-/// The form alone. Its quantifiers' numbers come to the end of the lists.
-pub fn without_numbers(
-    alloc: Global,
-    work: Boxed<Work>,
-    numbers: &mut Numbers,
-) -> Result<Boxed<Nf>, NoMemory>
-    ensures form { IfOk result (λ form. form ≡ nf_of (bare (numbered_of work))) }
-    ensures alls { OnOk result (numbers.new.alls ≡ numbers.old.alls
-        ++ universals (numbered_of work)) }
-    ensures exs { OnOk result (numbers.new.exs ≡ numbers.old.exs ++ existentials (numbered_of work)) }
-{
-    match work.into_inner() {
-        Work::True => boxed(alloc, Nf::True),
-        Work::False => boxed(alloc, Nf::False),
-        Work::Lit(literal) => boxed(alloc, Nf::Lit(literal)),
-        Work::And(a, b) => {
-            let a = without_numbers(alloc, a, numbers)?;
-            let b = without_numbers(alloc, b, numbers)?;
-            boxed(alloc, Nf::And(a, b))
+// A loop along left parts: a sorted chain is nested to the left, deeper than the stack may be.
+impl Drop for Work {
+    fn drop(mut self) {
+        loop {
+            match self {
+                Work::True | Work::False | Work::Lit(_) => return,
+                Work::And(left, right) | Work::Or(left, right) => {
+                    let _right = right.into_inner();
+                    self = left.into_inner();
+                }
+                Work::All(_number, body) | Work::Ex(_number, body) => self = body.into_inner(),
+            }
         }
-        Work::Or(a, b) => {
-            let a = without_numbers(alloc, a, numbers)?;
-            let b = without_numbers(alloc, b, numbers)?;
-            boxed(alloc, Nf::Or(a, b))
-        }
-        Work::All(number, a) => {
-            numbers.alls.push(number)?;
-            let a = without_numbers(alloc, a, numbers)?;
-            boxed(alloc, Nf::All(a))
-        }
-        Work::Ex(number, a) => {
-            numbers.exs.push(number)?;
-            let a = without_numbers(alloc, a, numbers)?;
-            boxed(alloc, Nf::Ex(a))
+    }
+}
+
+impl Work {
+    /// The form alone, by a loop along the left parts, the right ones first. So its quantifiers' numbers come
+    /// to the end of the lists from the last to the first.
+    pub fn without_numbers(
+        mut self,
+        alloc: Global,
+        numbers: &mut Numbers,
+    ) -> Result<Boxed<Nf>, NoMemory>
+        ensures form { IfOk result (λ form. form ≡ nf_of (bare (numbered_of self))) }
+        ensures alls { OnOk result (numbers.new.alls ≡ numbers.old.alls
+            ++ reverse (universals (numbered_of self))) }
+        ensures exs { OnOk result (numbers.new.exs ≡ numbers.old.exs
+            ++ reverse (existentials (numbered_of self))) }
+    {
+        let mut layers = Vec::new(alloc);
+        loop {
+            match self {
+                Work::True => return within_all(alloc, Nf::True, layers),
+                Work::False => return within_all(alloc, Nf::False, layers),
+                Work::Lit(literal) => return within_all(alloc, Nf::Lit(literal), layers),
+                Work::And(left, right) => {
+                    let right = right.into_inner().without_numbers(alloc, numbers)?;
+                    layers.push(Layer::And(right))?;
+                    self = left.into_inner();
+                }
+                Work::Or(left, right) => {
+                    let right = right.into_inner().without_numbers(alloc, numbers)?;
+                    layers.push(Layer::Or(right))?;
+                    self = left.into_inner();
+                }
+                Work::All(number, body) => {
+                    let body = body.into_inner().without_numbers(alloc, numbers)?;
+                    numbers.alls.push(number)?;
+                    return within_all(alloc, Nf::All(body), layers);
+                }
+                Work::Ex(number, body) => {
+                    let body = body.into_inner().without_numbers(alloc, numbers)?;
+                    numbers.exs.push(number)?;
+                    return within_all(alloc, Nf::Ex(body), layers);
+                }
+            }
         }
     }
 }

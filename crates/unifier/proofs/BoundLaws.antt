@@ -8,8 +8,8 @@ use Rattle.std.proofs.Math.ListN.{length-set}
 use Rattle.dk_syntax.specs.declared.Term.{Term}
 use Rattle.dk_syntax.specs.declared.Term.TheVariants.{Var}
 use Rattle.dk_syntax.proofs.SubstitutionLaws.{after, agree, comes, is_variable, one, one_absent, one_comes, one_other, one_refined, one_same, substituted-Var}
-use Rattle.unifier.specs.Outcomes.{Resolves, Sound}
-use Rattle.unifier.specs.Substitution.{Refines, Resolved, value}
+use Rattle.unifier.specs.Outcomes.{IsSettledBy, Sound}
+use Rattle.unifier.specs.Substitution.{Refines, IsSettledTerm, value}
 use Rattle.dk_syntax.specs.Terms.{Below, has_variable, substituted}
 
 -- ---- cases
@@ -53,7 +53,7 @@ unbound_sound frozen n = record {
   unfrozen = λ k t e. absurd (let a = none_there n k in cc);
   below = λ k t e. absurd (let a = none_there n k in cc);
   form = Var;
-  resolves = record {
+  settles = record {
     free = λ k e. refl;
     refines = unbound_refined n Var;
     general = λ r h k. sym (substituted-Var r k);
@@ -64,17 +64,17 @@ unbound_sound frozen n = record {
 
 -- ---- what a most general substitution says of terms
 
-pub form_general : (s : List (Option Term)) (m r : ℕ → Term) → Resolves s m → Refines s r → (t : Term) → substituted r (substituted m t) ≡ substituted r t
+pub form_general : (s : List (Option Term)) (m r : ℕ → Term) → IsSettledBy s m → Refines s r → (t : Term) → substituted r (substituted m t) ≡ substituted r t
 form_general s m r ok h t = after r m t ∙ agree (λ k. substituted r (m k)) r t (λ k e. sym (ok.general r h k))
 
-pub form_apart : (s : List (Option Term)) (m : ℕ → Term) → Resolves s m → (t : Term) → Resolved s (substituted m t)
+pub form_apart : (s : List (Option Term)) (m : ℕ → Term) → IsSettledBy s m → (t : Term) → IsSettledTerm s (substituted m t)
 form_apart s m ok t j u e = false_from_ne_true (has_variable j (substituted m t)) (λ h.
     let w = comes m j t h in true_not_false (has_variable j (m w.0)) w.2 (ok.apart w.0 j u e))
 
-pub form_below : (s : List (Option Term)) (m : ℕ → Term) → Resolves s m → (t : Term) → Below (length s) t → Below (length s) (substituted m t)
+pub form_below : (s : List (Option Term)) (m : ℕ → Term) → IsSettledBy s m → (t : Term) → Below (length s) t → Below (length s) (substituted m t)
 form_below s m ok t b j h = let w = comes m j t h in ok.within w.0 (b w.0 w.1) j w.2
 
-pub bound_form : (s : List (Option Term)) (m : ℕ → Term) (k : ℕ) (t : Term) → Resolves s m → get_or s k None ≡ Some t → m k ≡ substituted m t
+pub bound_form : (s : List (Option Term)) (m : ℕ → Term) (k : ℕ) (t : Term) → IsSettledBy s m → get_or s k None ≡ Some t → m k ≡ substituted m t
 bound_form s m k t ok e = ok.refines k ∙ ap (substituted m) (value_some s k t e)
 
 -- ---- the bindings with k bound to t
@@ -126,7 +126,7 @@ with_bound m k t x = substituted (one k (substituted m t)) (m x)
 with_bound_after : (m : ℕ → Term) (k : ℕ) (t u : Term) → substituted (one k (substituted m t)) (substituted m u) ≡ substituted (with_bound m k t) u
 with_bound_after m k t u = after (one k (substituted m t)) m u
 
-with_bound_refines : (s : List (Option Term)) (m : ℕ → Term) (k : ℕ) (t : Term) → Resolves s m → k < length s → get_or s k None ≡ None → has_variable k (substituted m t) ≡ false → Refines (bound s k t) (with_bound m k t)
+with_bound_refines : (s : List (Option Term)) (m : ℕ → Term) (k : ℕ) (t : Term) → IsSettledBy s m → k < length s → get_or s k None ≡ None → has_variable k (substituted m t) ≡ false → Refines (bound s k t) (with_bound m k t)
 with_bound_refines s m k t ok l free absent =
     let o = one k (substituted m t) in
     bound_refined s k t l (with_bound m k t)
@@ -134,7 +134,7 @@ with_bound_refines s m k t ok l free absent =
     (ap (substituted o) (ok.free k free) ∙ substituted-Var o k ∙ one_same k (substituted m t)
     ∙ sym (one_absent k (substituted m t) (substituted m t) absent) ∙ with_bound_after m k t t)
 
-with_bound_free : (s : List (Option Term)) (m : ℕ → Term) (k : ℕ) (t : Term) → Resolves s m → k < length s → (x : ℕ) → get_or (bound s k t) x None ≡ None → with_bound m k t x ≡ Var x
+with_bound_free : (s : List (Option Term)) (m : ℕ → Term) (k : ℕ) (t : Term) → IsSettledBy s m → k < length s → (x : ℕ) → get_or (bound s k t) x None ≡ None → with_bound m k t x ≡ Var x
 with_bound_free s m k t ok l x e = elim (cases_Bool (nat_eq x k)) [
   | inl p ↦ absurd (
       let a = bound_here s k t l in
@@ -144,7 +144,7 @@ with_bound_free s m k t ok l x e = elim (cases_Bool (nat_eq x k)) [
       ap (substituted o) (ok.free x (sym (bound_there s k t x p) ∙ e)) ∙ substituted-Var o x ∙ one_other k (substituted m t) x p
 ]
 
-with_bound_apart : (s : List (Option Term)) (m : ℕ → Term) (k : ℕ) (t : Term) → Resolves s m → k < length s → has_variable k (substituted m t) ≡ false → (x j : ℕ) (u : Term) → get_or (bound s k t) j None ≡ Some u → has_variable j (with_bound m k t x) ≡ false
+with_bound_apart : (s : List (Option Term)) (m : ℕ → Term) (k : ℕ) (t : Term) → IsSettledBy s m → k < length s → has_variable k (substituted m t) ≡ false → (x j : ℕ) (u : Term) → get_or (bound s k t) j None ≡ Some u → has_variable j (with_bound m k t x) ≡ false
 with_bound_apart s m k t ok l absent x j u e = false_from_ne_true (has_variable j (with_bound m k t x)) (λ h.
     elim (one_comes k (substituted m t) j (m x) h) [
       | inl p ↦ elim (bound_entry s k t l j u e) [
@@ -157,20 +157,20 @@ with_bound_apart s m k t ok l absent x j u e = false_from_ne_true (has_variable 
       ]
     ])
 
-with_bound_within : (s : List (Option Term)) (m : ℕ → Term) (k : ℕ) (t : Term) → Resolves s m → Below (length s) t → (x : ℕ) → x < length s → Below (length s) (with_bound m k t x)
+with_bound_within : (s : List (Option Term)) (m : ℕ → Term) (k : ℕ) (t : Term) → IsSettledBy s m → Below (length s) t → (x : ℕ) → x < length s → Below (length s) (with_bound m k t x)
 with_bound_within s m k t ok low x l j h = elim (one_comes k (substituted m t) j (m x) h) [
   | inl p ↦ form_below s m ok t low j p
   | inr p ↦ ok.within x l j p.0
 ]
 
-with_bound_general : (s : List (Option Term)) (m : ℕ → Term) (k : ℕ) (t : Term) → Resolves s m → k < length s → get_or s k None ≡ None → (r : ℕ → Term) → Refines (bound s k t) r → (x : ℕ) → r x ≡ substituted r (with_bound m k t x)
+with_bound_general : (s : List (Option Term)) (m : ℕ → Term) (k : ℕ) (t : Term) → IsSettledBy s m → k < length s → get_or s k None ≡ None → (r : ℕ → Term) → Refines (bound s k t) r → (x : ℕ) → r x ≡ substituted r (with_bound m k t x)
 with_bound_general s m k t ok l free r h x =
     let old = bound_old s k t l free r h in
     ok.general r old x
     ∙ sym (one_refined k (substituted m t) r (bound_new s k t l r h ∙ sym (form_general s m r ok old t)) (m x))
 
 -- binding an unbound variable to a term in which it does not stand keeps bindings sound
-pub bound_sound : (frozen : ℕ) (s : List (Option Term)) (k : ℕ) (t : Term) → Sound frozen s → frozen ≤ k → k < length s → get_or s k None ≡ None → Below (length s) t → ((m : ℕ → Term) → Resolves s m → has_variable k (substituted m t) ≡ false) → Sound frozen (bound s k t)
+pub bound_sound : (frozen : ℕ) (s : List (Option Term)) (k : ℕ) (t : Term) → Sound frozen s → frozen ≤ k → k < length s → get_or s k None ≡ None → Below (length s) t → ((m : ℕ → Term) → IsSettledBy s m → has_variable k (substituted m t) ≡ false) → Sound frozen (bound s k t)
 bound_sound frozen s k t ok low l free below absent = record {
   unfrozen = λ j u e. elim (bound_entry s k t l j u e) [
     | inl p ↦ subst (λ n. frozen ≤ n) (sym p.0) low
@@ -181,12 +181,12 @@ bound_sound frozen s k t ok low l free below absent = record {
     | inr p ↦ ok.below j u p.1
   ]);
   form = with_bound ok.form k t;
-  resolves = record {
-    free = with_bound_free s ok.form k t ok.resolves l;
-    refines = with_bound_refines s ok.form k t ok.resolves l free (absent ok.form ok.resolves);
-    general = with_bound_general s ok.form k t ok.resolves l free;
-    apart = with_bound_apart s ok.form k t ok.resolves l (absent ok.form ok.resolves);
+  settles = record {
+    free = with_bound_free s ok.form k t ok.settles l;
+    refines = with_bound_refines s ok.form k t ok.settles l free (absent ok.form ok.settles);
+    general = with_bound_general s ok.form k t ok.settles l free;
+    apart = with_bound_apart s ok.form k t ok.settles l (absent ok.form ok.settles);
     within = λ x lt. subst (λ n. Below n (with_bound ok.form k t x)) (sym (bound_length s k t))
-        (with_bound_within s ok.form k t ok.resolves below x (subst (λ n. x < n) (bound_length s k t) lt));
+        (with_bound_within s ok.form k t ok.settles below x (subst (λ n. x < n) (bound_length s k t) lt));
   };
 }

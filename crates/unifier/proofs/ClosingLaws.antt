@@ -2,19 +2,20 @@
 use Rattle.std.proofs.Common.{◌≡◌, ◌<◌, ℕ, true, false, List, [], ◌∷◌, map, Option, Some, None, get_or, subst, refl, sym, ap, ◌∙◌, inl, inr}
 use Rattle.std.specs.Prelude.{if◌then◌else◌, nat_lt}
 use Rattle.std.proofs.lemmas.Bool.{cases_Bool, eq-eqb, eqb-true, false_from_ne_true, ltb-true, or_left, or_right}
-use Rattle.dk_syntax.proofs.TermLaws.{App-injective, Each, Var-injective, term_induction}
+use Rattle.dk_syntax.proofs.ListLaws.{ForEach}
+use Rattle.dk_syntax.proofs.TermLaws.{App-injective, Var-injective, term_induction}
 use Rattle.dk_syntax.specs.declared.Term.{Term}
 use Rattle.dk_syntax.specs.declared.Term.TheVariants.{Any, App, Var}
 use Rattle.unifier.proofs.BoundLaws.{Some-injective, entry_cases, refined_value, true_not_false, value_none, value_some}
-use Rattle.unifier.proofs.ResolutionLaws.{value_fixes}
+use Rattle.unifier.proofs.SettlingLaws.{value_fixes}
 use Rattle.dk_syntax.proofs.SubstitutionLaws.{comes, has_variable-Any, has_variable-App, has_variable-Var, substituted-Any, substituted-App, substituted-Var}
 use Rattle.unifier.specs.Closing.{any_or_variable, closed_entry, closing}
-use Rattle.unifier.specs.Substitution.{Refines, Resolved, Settled, value}
+use Rattle.unifier.specs.Substitution.{Refines, IsSettledTerm, Settled, value}
 use Rattle.dk_syntax.specs.Terms.{Below, any_true, has_variable, substituted}
 
 -- what stands in the value of a term is unbound
-pub value_resolved : (frozen : ℕ) (s : List (Option Term)) → Settled frozen s → (t : Term) → Resolved s (substituted (value s) t)
-value_resolved frozen s ok t j u e = false_from_ne_true (has_variable j (substituted (value s) t)) (λ h.
+pub value_settled : (frozen : ℕ) (s : List (Option Term)) → Settled frozen s → (t : Term) → IsSettledTerm s (substituted (value s) t)
+value_settled frozen s ok t j u e = false_from_ne_true (has_variable j (substituted (value s) t)) (λ h.
     let w = comes (value s) j t h in
     elim (entry_cases (get_or s w.0 None)) [
       | inl p ↦
@@ -24,14 +25,14 @@ value_resolved frozen s ok t j u e = false_from_ne_true (has_variable j (substit
     ])
 
 -- a variable that stands for itself is unbound where no bound one stands
-pub free_there : (s : List (Option Term)) (j : ℕ) → Resolved s (Var j) → get_or s j None ≡ None
+pub free_there : (s : List (Option Term)) (j : ℕ) → IsSettledTerm s (Var j) → get_or s j None ≡ None
 free_there s j res = elim (entry_cases (get_or s j None)) [
   | inl p ↦ p
   | inr p ↦ absurd (true_not_false (has_variable j (Var j)) (has_variable-Var j j ∙ eq-eqb j j refl) (res j p.0 p.1))
 ]
 
 -- what is closed has no variable from `frozen` on
-pub closed_below : (frozen : ℕ) (s : List (Option Term)) (t : Term) → Resolved s t → Below frozen (substituted (closing frozen s) t)
+pub closed_below : (frozen : ℕ) (s : List (Option Term)) (t : Term) → IsSettledTerm s t → Below frozen (substituted (closing frozen s) t)
 closed_below frozen s t res j h =
     let w = comes (closing frozen s) j t h in
     elim (cases_Bool (nat_lt w.0 frozen)) [
@@ -47,7 +48,7 @@ closed_below frozen s t res j h =
           ]
     ]
 
-pub entry_below : (frozen : ℕ) (s : List (Option Term)) (k : ℕ) (t : Term) → ((k : ℕ) (t : Term) → get_or s k None ≡ Some t → Resolved s t) → closed_entry frozen s k (get_or s k None) ≡ Some t → Below frozen t
+pub entry_below : (frozen : ℕ) (s : List (Option Term)) (k : ℕ) (t : Term) → ((k : ℕ) (t : Term) → get_or s k None ≡ Some t → IsSettledTerm s t) → closed_entry frozen s k (get_or s k None) ≡ Some t → Below frozen t
 entry_below frozen s k t res e = elim (entry_cases (get_or s k None)) [
   | inl p ↦ elim (cases_Bool (nat_lt k frozen)) [
     | inl q ↦ absurd (
@@ -71,12 +72,12 @@ entry_below frozen s k t res e = elim (entry_cases (get_or s k None)) [
 closing_low : (frozen : ℕ) (s : List (Option Term)) (j : ℕ) → nat_lt j frozen ≡ true → substituted (closing frozen s) (Var j) ≡ Var j
 closing_low frozen s j p = substituted-Var (closing frozen s) j ∙ ap (λ b. if b then Var j else any_or_variable (get_or s j None) j) p
 
-closing_high : (frozen : ℕ) (s : List (Option Term)) (j : ℕ) → nat_lt j frozen ≡ false → Resolved s (Var j) → substituted (closing frozen s) (Var j) ≡ Any
+closing_high : (frozen : ℕ) (s : List (Option Term)) (j : ℕ) → nat_lt j frozen ≡ false → IsSettledTerm s (Var j) → substituted (closing frozen s) (Var j) ≡ Any
 closing_high frozen s j p res = substituted-Var (closing frozen s) j ∙ ap (λ b. if b then Var j else any_or_variable (get_or s j None) j) p ∙ ap (λ o. any_or_variable o j) (free_there s j res)
 
 -- what becomes a variable from `frozen` on is one
 abbrev pub Becomes : ℕ → List (Option Term) → List (Option Term) → ℕ → Term → Type 0
-Becomes frozen s u j b = Settled frozen s → nat_lt j frozen ≡ false → Resolved u b → substituted (value s) b ≡ Var j → substituted (closing frozen u) b ≡ Any
+Becomes frozen s u j b = Settled frozen s → nat_lt j frozen ≡ false → IsSettledTerm u b → substituted (value s) b ≡ Var j → substituted (closing frozen u) b ≡ Any
 
 becomes : (frozen : ℕ) (s u : List (Option Term)) (j : ℕ) (b : Term) → Becomes frozen s u j b
 becomes frozen s u j = term_induction (Becomes frozen s u j)
@@ -91,9 +92,9 @@ becomes frozen s u j = term_induction (Becomes frozen s u j)
     (λ ok p res e. substituted-Any (closing frozen u))
 
 abbrev pub Twin : ℕ → List (Option Term) → List (Option Term) → Term → Type 0
-Twin frozen s u a = Resolved s a → Resolved u (substituted (value u) a) → substituted (value s) (substituted (value u) a) ≡ a → substituted (closing frozen s) a ≡ substituted (closing frozen u) (substituted (value u) a)
+Twin frozen s u a = IsSettledTerm s a → IsSettledTerm u (substituted (value u) a) → substituted (value s) (substituted (value u) a) ≡ a → substituted (closing frozen s) a ≡ substituted (closing frozen u) (substituted (value u) a)
 
-twin_all : (frozen : ℕ) (s u : List (Option Term)) (args : List Term) → Each (Twin frozen s u) args
+twin_all : (frozen : ℕ) (s u : List (Option Term)) (args : List Term) → ForEach (Twin frozen s u) args
     → ((j : ℕ) (t : Term) → get_or s j None ≡ Some t → any_true (map (has_variable j) args) ≡ false)
     → ((j : ℕ) (t : Term) → get_or u j None ≡ Some t → any_true (map (has_variable j) (map (substituted (value u)) args)) ≡ false)
     → map (substituted (value s)) (map (substituted (value u)) args) ≡ args
@@ -134,7 +135,7 @@ pub one_closing : (frozen : ℕ) (s u : List (Option Term)) → Settled frozen s
 one_closing frozen s u ok uk a b t =
     let x = refined_value s (value u) a t in
     let y = refined_value u (value s) b t in
-    twin frozen s u ok uk (substituted (value s) t) (value_resolved frozen s ok t)
-    (subst (Resolved u) (sym x) (value_resolved frozen u uk t))
+    twin frozen s u ok uk (substituted (value s) t) (value_settled frozen s ok t)
+    (subst (IsSettledTerm u) (sym x) (value_settled frozen u uk t))
     (ap (substituted (value s)) x ∙ y)
     ∙ ap (substituted (closing frozen u)) x

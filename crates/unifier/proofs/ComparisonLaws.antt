@@ -10,7 +10,7 @@ use Rattle.unifier.proofs.OccurrenceLaws.{leads_nowhere}
 use Rattle.unifier.specs.Comparing.{Follows, Needs, NextStep}
 use Rattle.unifier.specs.declared.comparison.Step.{Step}
 use Rattle.unifier.specs.declared.comparison.Step.TheVariants.{Bind, Different, Equal}
-use Rattle.unifier.specs.Outcomes.{Refuted, Resolves, Sound}
+use Rattle.unifier.specs.Outcomes.{Refuted, IsSettledBy, Sound}
 use Rattle.unifier.specs.Substitution.{Fixes, Refines}
 use Rattle.dk_syntax.specs.Terms.{Below, has_variable, substituted}
 
@@ -51,7 +51,7 @@ step_along frozen Q R s (Bind k t) there back known = record {
 pub same_variable : (frozen : ℕ) (s : List (Option Term)) (i j : ℕ) (b : Term) → b ≡ Var j → i ≡ j → Follows frozen (λ r. r i ≡ substituted r b) s
 same_variable frozen s i j b e is r f h = ap r is ∙ sym (ap (substituted r) e ∙ substituted-Var r j)
 
-variable_absent : (s : List (Option Term)) (k j : ℕ) (m : ℕ → Term) → Resolves s m → get_or s j None ≡ None → (j ≡ k → ⊥) → has_variable k (substituted m (Var j)) ≡ false
+variable_absent : (s : List (Option Term)) (k j : ℕ) (m : ℕ → Term) → IsSettledBy s m → get_or s j None ≡ None → (j ≡ k → ⊥) → has_variable k (substituted m (Var j)) ≡ false
 variable_absent s k j m ok free other = ap (has_variable k) (substituted-Var m j) ∙ sym (leads_nowhere s k j m ok free other)
 
 pub first_bound : (frozen : ℕ) (s : List (Option Term)) (i j : ℕ) (b : Term) → b ≡ Var j → (i ≡ j → ⊥) → frozen ≤ i → i < length s → get_or s i None ≡ None → get_or s j None ≡ None → Below (length s) b → Needs frozen (λ r. r i ≡ substituted r b) s i (Var j)
@@ -82,12 +82,12 @@ pub frozen_term : (frozen : ℕ) (s : List (Option Term)) (i : ℕ) (b : Term) �
 frozen_term frozen s i b never l r f h q = never_variable r b i never (sym q ∙ f i l)
 
 -- a variable that a term leads to is not equal to the term
-pub occurs_refuted : (frozen : ℕ) (s : List (Option Term)) (i : ℕ) (b : Term) → Sound frozen s → ((j : ℕ) → ¬ b ≡ Var j) → ((m : ℕ → Term) → Resolves s m → true ≡ has_variable i (substituted m b)) → Refuted frozen (λ r. r i ≡ substituted r b) s
+pub occurs_refuted : (frozen : ℕ) (s : List (Option Term)) (i : ℕ) (b : Term) → Sound frozen s → ((j : ℕ) → ¬ b ≡ Var j) → ((m : ℕ → Term) → IsSettledBy s m → true ≡ has_variable i (substituted m b)) → Refuted frozen (λ r. r i ≡ substituted r b) s
 occurs_refuted frozen s i b ok never there r f h q =
-    acyclic r i (substituted ok.form b) (sym (there ok.form ok.resolves)) (never_variable ok.form b i never)
-    (q ∙ sym (form_general s ok.form r ok.resolves h b))
+    acyclic r i (substituted ok.form b) (sym (there ok.form ok.settles)) (never_variable ok.form b i never)
+    (q ∙ sym (form_general s ok.form r ok.settles h b))
 
-pub term_bound : (frozen : ℕ) (s : List (Option Term)) (i : ℕ) (b t : Term) → t ≡ b → frozen ≤ i → i < length s → get_or s i None ≡ None → Below (length s) b → ((m : ℕ → Term) → Resolves s m → false ≡ has_variable i (substituted m b)) → Needs frozen (λ r. r i ≡ substituted r b) s i t
+pub term_bound : (frozen : ℕ) (s : List (Option Term)) (i : ℕ) (b t : Term) → t ≡ b → frozen ≤ i → i < length s → get_or s i None ≡ None → Below (length s) b → ((m : ℕ → Term) → IsSettledBy s m → false ≡ has_variable i (substituted m b)) → Needs frozen (λ r. r i ≡ substituted r b) s i t
 term_bound frozen s i b t e low l free below absent = record {
   within = l;
   unfrozen = low;

@@ -4,7 +4,7 @@ pub mod ClosingLaws
 pub mod ComparisonLaws
 pub mod OccurrenceLaws
 pub mod OutcomeLaws
-pub mod ResolutionLaws
+pub mod SettlingLaws
 pub mod Sizes
 pub mod SolutionLaws
 pub mod Steps

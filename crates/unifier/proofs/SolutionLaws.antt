@@ -5,7 +5,7 @@ use Rattle.unifier.proofs.BoundLaws.{unbound, unbound_refined}
 use Rattle.std.proofs.lemmas.List.{get_or_default}
 use Rattle.dk_syntax.proofs.ListLaws.{or_equal}
 use Rattle.unifier.proofs.OutcomeLaws.{later}
-use Rattle.unifier.proofs.ResolutionLaws.{refines_itself, value_fixes}
+use Rattle.unifier.proofs.SettlingLaws.{refines_itself, value_fixes}
 use Rattle.unifier.specs.Outcomes.{Extended, Outcome, Refuted}
 use Rattle.unifier.specs.Solutions.{Equal, Solves}
 use Rattle.unifier.specs.Substitution.{Refines, SameInstances, Settled, value}

@@ -3,7 +3,7 @@ use Rattle.std.specs.Prelude.{ℕ, ◌≡◌, ◌<◌, ◌≤◌, Bool, true, fa
 use Rattle.dk_syntax.specs.declared.Term.{Term}
 use Rattle.unifier.specs.declared.comparison.Step.{Step}
 use Rattle.unifier.specs.declared.comparison.Step.TheVariants.{Bind, Different, Equal}
-use Rattle.unifier.specs.Outcomes.{Refuted, Resolves}
+use Rattle.unifier.specs.Outcomes.{Refuted, IsSettledBy}
 use Rattle.unifier.specs.Substitution.{Fixes, Refines}
 use Rattle.dk_syntax.specs.Terms.{Below, has_variable, substituted}
 
@@ -13,7 +13,7 @@ Follows frozen Q s = (r : ℕ → Term) → Fixes frozen r → Refines s r → Q
 
 -- no most general substitution that refines the bindings has the variable in the term
 abbrev pub Absent : List (Option Term) → ℕ → Term → Type 0
-Absent s k t = (m : ℕ → Term) → Resolves s m → has_variable k (substituted m t) ≡ false
+Absent s k t = (m : ℕ → Term) → IsSettledBy s m → has_variable k (substituted m t) ≡ false
 
 -- k may be bound to t, and what refines the bindings and has Q is the same at both
 pub record Needs (frozen : ℕ) (Q : (ℕ → Term) → Type 0) (s : List (Option Term)) (k : ℕ) (t : Term) : Type 0 where
@@ -32,4 +32,4 @@ NextStep frozen Q s (Bind k t) = Needs frozen Q s k t
 
 -- the marked variables do not lead to k
 abbrev pub Marked : List (Option Term) → ℕ → List Bool → Type 0
-Marked s k marks = (j : ℕ) → get_or marks j false ≡ true → (m : ℕ → Term) → Resolves s m → has_variable k (m j) ≡ false
+Marked s k marks = (j : ℕ) → get_or marks j false ≡ true → (m : ℕ → Term) → IsSettledBy s m → has_variable k (m j) ≡ false

@@ -1,6 +1,6 @@
 pub mod Closing
 pub mod Comparing
 pub mod Outcomes
-pub mod Resolving
+pub mod Settling
 pub mod Solutions
 pub mod Substitution

@@ -6,7 +6,7 @@ use Rattle.unifier.specs.Substitution.{Fixes, Refines}
 use Rattle.dk_syntax.specs.Terms.{substituted, has_variable, Below}
 
 -- m is a most general substitution that refines the bindings, and no bound variable stands in its terms
-pub record Resolves (s : List (Option Term)) (m : ℕ → Term) : Type 0 where
+pub record IsSettledBy (s : List (Option Term)) (m : ℕ → Term) : Type 0 where
   pub free : (k : ℕ) → get_or s k None ≡ None → m k ≡ Var k
   pub refines : Refines s m
   pub general : (r : ℕ → Term) → Refines s r → (k : ℕ) → r k ≡ substituted r (m k)
@@ -19,7 +19,7 @@ pub record Sound (frozen : ℕ) (s : List (Option Term)) : Type 0 where
   pub unfrozen : (k : ℕ) (t : Term) → get_or s k None ≡ Some t → frozen ≤ k
   pub below : (k : ℕ) (t : Term) → get_or s k None ≡ Some t → Below (length s) t
   pub form : ℕ → Term
-  pub resolves : Resolves s form
+  pub settles : IsSettledBy s form
 
 -- r refines n exactly where it refines s and has Q
 pub record Extended (frozen : ℕ) (Q : (ℕ → Term) → Type 0) (s n : List (Option Term)) : Type 0 where

@@ -22,12 +22,12 @@ abbrev pub SameInstances : List (Option Term) → List (Option Term) → Type 0
 SameInstances s n = (r : ℕ → Term) → (Refines s r → Refines n r) × (Refines n r → Refines s r)
 
 -- no bound variable stands in the term
-abbrev pub Resolved : List (Option Term) → Term → Type 0
-Resolved s t = (j : ℕ) (u : Term) → get_or s j None ≡ Some u → has_variable j t ≡ false
+abbrev pub IsSettledTerm : List (Option Term) → Term → Type 0
+IsSettledTerm s t = (j : ℕ) (u : Term) → get_or s j None ≡ Some u → has_variable j t ≡ false
 
 -- no bound variable stands in a term of the list
 abbrev pub NoneBoundStands : List (Option Term) → Type 0
-NoneBoundStands s = (k : ℕ) (t : Term) → get_or s k None ≡ Some t → Resolved s t
+NoneBoundStands s = (k : ℕ) (t : Term) → get_or s k None ≡ Some t → IsSettledTerm s t
 
 -- only variables from `frozen` on are bound, no bound variable stands in a term, and each variable is below the length
 pub record Settled (frozen : ℕ) (s : List (Option Term)) : Type 0 where

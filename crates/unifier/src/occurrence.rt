@@ -2,7 +2,7 @@
 ghost use Rattle.std.specs.Prelude.{◌≡◌, ◌⊎◌, ℕ, true, false, get_or, map, None, IfOk};
 ghost use Rattle.dk_syntax.specs.declared.Term.{Term as Tree};
 ghost use Rattle.unifier.specs.Comparing.{Marked};
-ghost use Rattle.unifier.specs.Outcomes.{Resolves};
+ghost use Rattle.unifier.specs.Outcomes.{IsSettledBy};
 ghost use Rattle.dk_syntax.specs.Terms.{any_true, has_variable, substituted};
 
 use crate::bindings::bound_term;
@@ -50,7 +50,7 @@ fn leads_to(
 ) -> Result<bool, NoMemory>
     requires free { get_or s.now k None ≡ None }
     requires marked { Marked s.now k marks.old }
-    ensures found { IfOk result (λ found. (m : ℕ → Tree) → Resolves s.now m
+    ensures found { IfOk result (λ found. (m : ℕ → Tree) → IsSettledBy s.now m
         → found ≡ has_variable k (substituted m t.now)) }
     ensures marked { Marked s.now k marks.new }
 {
@@ -80,7 +80,7 @@ fn variable_leads_to(
 ) -> Result<bool, NoMemory>
     requires free { get_or s.now k None ≡ None }
     requires marked { Marked s.now k marks.old }
-    ensures found { IfOk result (λ found. (m : ℕ → Tree) → Resolves s.now m
+    ensures found { IfOk result (λ found. (m : ℕ → Tree) → IsSettledBy s.now m
         → found ≡ has_variable k (m j)) }
     ensures marked { Marked s.now k marks.new }
 {
@@ -112,7 +112,7 @@ fn one_leads_to(
 ) -> Result<bool, NoMemory>
     requires free { get_or s.now k None ≡ None }
     requires marked { Marked s.now k marks.old }
-    ensures found { IfOk result (λ found. (m : ℕ → Tree) → Resolves s.now m
+    ensures found { IfOk result (λ found. (m : ℕ → Tree) → IsSettledBy s.now m
         → found ≡ any_true (map (λ t. has_variable k (substituted m t)) terms.now)) }
     ensures marked { Marked s.now k marks.new }
 {
@@ -128,7 +128,7 @@ fn one_leads_to(
 /// Whether the variable, which is unbound, stands in the term through the bindings.
 pub fn occurs(alloc: Global, k: u32, s: &[Option<Term>], t: &Term) -> Result<bool, NoMemory>
     requires { get_or s.now k None ≡ None }
-    ensures { IfOk result (λ found. (m : ℕ → Tree) → Resolves s.now m
+    ensures { IfOk result (λ found. (m : ℕ → Tree) → IsSettledBy s.now m
         → found ≡ has_variable k (substituted m t.now)) }
 {
     let mut marks = no_marks(alloc, s.len())?;

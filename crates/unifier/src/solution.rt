@@ -7,7 +7,7 @@ ghost use Rattle.unifier.specs.Substitution.{Refines, Settled, value};
 use crate::bindings::Bindings;
 use crate::equations::{Equations, Subst};
 use crate::extension::extend;
-use crate::resolution::resolved;
+use crate::settling::settled;
 use dk_syntax::NoMemory;
 use std::alloc::Global;
 
@@ -36,6 +36,6 @@ pub fn solve(
             return Ok(None);
         }
     }
-    let s = resolved(alloc, &bindings)?;
+    let s = settled(alloc, &bindings)?;
     Ok(Some(s))
 }

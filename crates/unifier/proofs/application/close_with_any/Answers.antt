@@ -1,6 +1,6 @@
 use Rattle.std.proofs.Common.{◌<◌, None, ap, arith, get_or, length, sym, ◌∙◌}
 use Rattle.unifier.proofs.ClosingLaws.{entry_below}
-use Rattle.unifier.proofs.ResolutionLaws.{bound_within}
+use Rattle.unifier.proofs.SettlingLaws.{bound_within}
 use Rattle.unifier.specs.Closing.{closed_entry}
 use Rattle.unifier.proofs.application.close_with_any.Goals as goal
 

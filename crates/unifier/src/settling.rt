@@ -1,8 +1,8 @@
 //! The settled list for bindings.
 ghost use Rattle.std.specs.Prelude.{◌≡◌, ◌<◌, ◌⊎◌, ℕ, length, get_or, map, None, Some, IfOk};
 ghost use Rattle.dk_syntax.specs.declared.Term.{Term as Tree};
-ghost use Rattle.unifier.specs.Outcomes.{Resolves, Sound};
-ghost use Rattle.unifier.specs.Resolving.{Known, resolved_entry};
+ghost use Rattle.unifier.specs.Outcomes.{IsSettledBy, Sound};
+ghost use Rattle.unifier.specs.Settling.{Known, settled_entry};
 ghost use Rattle.unifier.specs.Substitution.{SameInstances, Settled};
 ghost use Rattle.dk_syntax.specs.Terms.{substituted};
 
@@ -33,8 +33,8 @@ fn keep(known: &mut [Option<Term>], j: u32, term: Term)
 
 /// The term with each bound variable replaced through the bindings. The terms of the variables that were
 /// met are kept, so that each is found once.
-#[cycle(resolve)]
-fn resolve(
+#[cycle(settle)]
+fn settle(
     alloc: Global,
     s: &[Option<Term>],
     known: &mut [Option<Term>],
@@ -42,7 +42,7 @@ fn resolve(
     fuel: u64,
 ) -> Result<Term, NoMemory>
     requires { Known s.now known.old }
-    ensures term { IfOk result (λ term. (m : ℕ → Tree) → Resolves s.now m
+    ensures term { IfOk result (λ term. (m : ℕ → Tree) → IsSettledBy s.now m
         → term ≡ substituted m t.now) }
     ensures known { Known s.now known.new }
 {
@@ -51,11 +51,11 @@ fn resolve(
     }
     match t {
         Term::Var(j) => {
-            let term = resolve_variable(alloc, s, known, *j, fuel - 1)?;
+            let term = settle_variable(alloc, s, known, *j, fuel - 1)?;
             Ok(term)
         }
         Term::App(symbol, args) => {
-            let args = resolve_each(alloc, s, known, args.as_slice(), fuel - 1)?;
+            let args = settle_each(alloc, s, known, args.as_slice(), fuel - 1)?;
             let symbol = symbol.copy(alloc)?;
             Ok(Term::App(symbol, args))
         }
@@ -63,8 +63,8 @@ fn resolve(
     }
 }
 
-#[cycle(resolve)]
-fn resolve_variable(
+#[cycle(settle)]
+fn settle_variable(
     alloc: Global,
     s: &[Option<Term>],
     known: &mut [Option<Term>],
@@ -72,7 +72,7 @@ fn resolve_variable(
     fuel: u64,
 ) -> Result<Term, NoMemory>
     requires { Known s.now known.old }
-    ensures term { IfOk result (λ term. (m : ℕ → Tree) → Resolves s.now m → term ≡ m j) }
+    ensures term { IfOk result (λ term. (m : ℕ → Tree) → IsSettledBy s.now m → term ≡ m j) }
     ensures known { Known s.now known.new }
 {
     if let Some(term) = bound_term(known, j) {
@@ -81,7 +81,7 @@ fn resolve_variable(
     }
     match bound_term(s, j) {
         Some(t) => {
-            let term = resolve(alloc, s, known, t, fuel)?;
+            let term = settle(alloc, s, known, t, fuel)?;
             let copy = term.copy(alloc)?;
             keep(known, j, copy);
             Ok(term)
@@ -90,8 +90,8 @@ fn resolve_variable(
     }
 }
 
-#[cycle(resolve)]
-fn resolve_each(
+#[cycle(settle)]
+fn settle_each(
     alloc: Global,
     s: &[Option<Term>],
     known: &mut [Option<Term>],
@@ -99,32 +99,32 @@ fn resolve_each(
     fuel: u64,
 ) -> Result<Seq<Term>, NoMemory>
     requires { Known s.now known.old }
-    ensures terms { IfOk result (λ all. (m : ℕ → Tree) → Resolves s.now m
+    ensures terms { IfOk result (λ all. (m : ℕ → Tree) → IsSettledBy s.now m
         → all ≡ map (substituted m) terms.now) }
     ensures known { Known s.now known.new }
 {
     let mut all = Seq::from_vec(Vec::new(alloc));
     for term in terms {
-        let term = resolve(alloc, s, known, term, fuel)?;
+        let term = settle(alloc, s, known, term, fuel)?;
         all.push(term)?;
     }
     Ok(all)
 }
 
-fn resolve_entry(
+fn settle_entry(
     alloc: Global,
     s: &[Option<Term>],
     known: &mut [Option<Term>],
     k: u32,
 ) -> Result<Option<Term>, NoMemory>
     requires { Known s.now known.old }
-    ensures entry { IfOk result (λ entry. (m : ℕ → Tree) → Resolves s.now m
-        → entry ≡ resolved_entry m k (get_or s.now k None)) }
+    ensures entry { IfOk result (λ entry. (m : ℕ → Tree) → IsSettledBy s.now m
+        → entry ≡ settled_entry m k (get_or s.now k None)) }
     ensures known { Known s.now known.new }
 {
     match bound_term(s, k) {
         Some(_) => {
-            let term = resolve_variable(alloc, s, known, k, u64::MAX)?;
+            let term = settle_variable(alloc, s, known, k, u64::MAX)?;
             Ok(Some(term))
         }
         None => Ok(None),
@@ -140,27 +140,27 @@ fn number(k: usize) -> Result<u32, NoMemory>
     }
 }
 
-fn resolve_entries(
+fn settle_entries(
     alloc: Global,
     s: &[Option<Term>],
     known: &mut [Option<Term>],
 ) -> Result<Seq<Option<Term>>, NoMemory>
     requires { Known s.now known.old }
     ensures length { IfOk result (λ entries. length entries ≡ length s.now) }
-    ensures entries { IfOk result (λ entries. (m : ℕ → Tree) → Resolves s.now m → (k : ℕ)
-        → k < length s.now → get_or entries k None ≡ resolved_entry m k (get_or s.now k None)) }
+    ensures entries { IfOk result (λ entries. (m : ℕ → Tree) → IsSettledBy s.now m → (k : ℕ)
+        → k < length s.now → get_or entries k None ≡ settled_entry m k (get_or s.now k None)) }
 {
     let mut entries = Seq::from_vec(Vec::new(alloc));
     for k in 0..s.len() {
         let variable = number(k)?;
-        let entry = resolve_entry(alloc, s, known, variable)?;
+        let entry = settle_entry(alloc, s, known, variable)?;
         entries.push(entry)?;
     }
     Ok(entries)
 }
 
 /// The list in which no bound variable stands in a term and which the same substitutions refine.
-pub fn resolved(alloc: Global, bindings: &Bindings) -> Result<Subst, NoMemory>
+pub fn settled(alloc: Global, bindings: &Bindings) -> Result<Subst, NoMemory>
     ensures length { IfOk result (λ s. length s.terms ≡ length bindings.now.terms) }
     ensures settled { IfOk result (λ s. (frozen : ℕ) → Sound frozen bindings.now.terms
         → Settled frozen s.terms) }
@@ -169,6 +169,6 @@ pub fn resolved(alloc: Global, bindings: &Bindings) -> Result<Subst, NoMemory>
 {
     let s = bindings.terms.as_slice();
     let mut known = none_known(alloc, s.len())?;
-    let terms = resolve_entries(alloc, s, &mut known)?;
+    let terms = settle_entries(alloc, s, &mut known)?;
     Ok(Subst { terms })
 }

@@ -1,5 +1,5 @@
-use Rattle.unifier.proofs.ResolutionLaws.{entries_same, entries_settled}
-use Rattle.unifier.proofs.resolution.resolved.Goals as goal
+use Rattle.unifier.proofs.SettlingLaws.{entries_same, entries_settled}
+use Rattle.unifier.proofs.settling.settled.Goals as goal
 
 pub returns-clause-settled : goal.returns-clause-settled
 returns-clause-settled c = λ frozen ok.

@@ -9,14 +9,14 @@ use Rattle.dk_syntax.specs.declared.SymKey.{SymKey}
 use Rattle.dk_syntax.specs.declared.Term.{Term}
 use Rattle.dk_syntax.specs.declared.Term.TheVariants.{Var}
 use Rattle.unifier.specs.Substitution.{Fixes}
-use Rattle.dk_syntax.specs.Terms.{substituted, has_variable, any_true, EachBelow}
+use Rattle.dk_syntax.specs.Terms.{any_true, EachBelow, has_variable, instance, substituted}
 use Rattle.dk_syntax.proofs.SubstitutionLaws.{substituted-Var, agree, after, same}
 use Rattle.std.proofs.lemmas.Bool.{or_left, or_right}
 use Rattle.step_clause.specs.declared.slots.Pivots.{Pivots}
 use Rattle.step_clause.specs.declared.slots.Side.{Side}
 use Rattle.step_clause.specs.declared.slots.Side.TheVariants.{Kept, Positive, Negative}
 use Rattle.step_clause.specs.declared.slots.Slot.{Slot}
-use Rattle.step_clause.specs.Candidates.{instance, Subsumes}
+use Rattle.step_clause.specs.Candidates.{Subsumes}
 use Rattle.step_clause.specs.Justifications.{LiteralsBelow}
 use Rattle.step_clause.specs.Search.{AtPick, after_sign, Fits}
 use Rattle.step_clause.specs.Slots.{raising, may_cut, slot_of}

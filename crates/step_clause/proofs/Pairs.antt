@@ -10,7 +10,7 @@ use Rattle.dk_syntax.specs.Terms.{substituted, any_true, has_variable, EachBelow
 use Rattle.unifier.proofs.BoundLaws.{unbound_refined}
 use Rattle.dk_syntax.proofs.SubstitutionLaws.{comes, is_variable}
 use Rattle.std.proofs.lemmas.Bool.{or_cases, or_left, or_right}
-use Rattle.unifier.proofs.ResolutionLaws.{refines_itself, value_fixes}
+use Rattle.unifier.proofs.SettlingLaws.{refines_itself, value_fixes}
 use Rattle.step_clause.specs.declared.justification.Justification.TheVariants.{Subsume, Resolve}
 use Rattle.step_clause.specs.declared.slots.Side.{Side}
 use Rattle.step_clause.specs.declared.slots.Side.TheVariants.{Kept, Positive, Negative}

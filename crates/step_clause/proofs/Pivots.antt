@@ -7,10 +7,10 @@ use Rattle.dk_syntax.specs.declared.Literal.{Literal}
 use Rattle.dk_syntax.specs.declared.SymKey.{SymKey}
 use Rattle.dk_syntax.specs.declared.Term.{Term}
 use Rattle.unifier.specs.Substitution.{Fixes}
-use Rattle.dk_syntax.specs.Terms.{substituted}
+use Rattle.dk_syntax.specs.Terms.{instance, substituted}
 use Rattle.step_clause.specs.declared.slots.Pivots.{Pivots}
 use Rattle.step_clause.specs.declared.slots.Slot.{Slot}
-use Rattle.step_clause.specs.Candidates.{instance, ArePicked, Resolves, affirmed, denied}
+use Rattle.step_clause.specs.Candidates.{ArePicked, Resolves, affirmed, denied}
 use Rattle.step_clause.specs.Justifications.{LiteralsBelow}
 use Rattle.step_clause.specs.Search.{SameAtom, SamePivot, first_pivot, after_pivot, Fits}
 use Rattle.step_clause.specs.Slots.{slot_of}

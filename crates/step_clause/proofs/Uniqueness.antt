@@ -4,7 +4,8 @@ use Rattle.std.specs.Prelude.{if◌then◌else◌, nat_lt}
 use Rattle.std.specs.List.{range_with_len}
 use Rattle.std.proofs.lemmas.Bool.{ltb-true}
 use Rattle.std.proofs.lemmas.Bool.Decides.{nat_tests}
-use Rattle.dk_syntax.proofs.TermLaws.{Each, term_induction, App-injective, Var-injective}
+use Rattle.dk_syntax.proofs.ListLaws.{ForEach}
+use Rattle.dk_syntax.proofs.TermLaws.{term_induction, App-injective, Var-injective}
 use Rattle.dk_syntax.specs.declared.Clause.{Clause}
 use Rattle.dk_syntax.specs.declared.Literal.{Literal}
 use Rattle.dk_syntax.specs.declared.Term.{Term}
@@ -50,7 +51,7 @@ becomes n r f k = term_induction (Becomes n r k)
 abbrev pub Alike : ℕ → (ℕ → Term) → (ℕ → Term) → Term → Type 0
 Alike n r s a = substituted s (substituted r a) ≡ a → substituted (closed n) a ≡ substituted (closed n) (substituted r a)
 
-alike_all : (n : ℕ) (r s : ℕ → Term) (args : List Term) → Each (Alike n r s) args → map (substituted s) (map (substituted r) args) ≡ args → map (substituted (closed n)) args ≡ map (substituted (closed n)) (map (substituted r) args)
+alike_all : (n : ℕ) (r s : ℕ → Term) (args : List Term) → ForEach (Alike n r s) args → map (substituted s) (map (substituted r) args) ≡ args → map (substituted (closed n)) args ≡ map (substituted (closed n)) (map (substituted r) args)
 alike_all n r s [] known e = refl
 alike_all n r s (x ∷ xs) known e =
     let a = known.0 (cc) in

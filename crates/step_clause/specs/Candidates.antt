@@ -1,16 +1,12 @@
 -- The ways in which a clause may follow from clauses of its parents, which of them work, and their order.
-use Rattle.std.specs.Prelude.{◌≡◌, ℕ, ◌<◌, ◌⊎◌, List, [], ◌∷◌, ◌++◌, map, Some, length, slice_get, Contains, true, false}
+use Rattle.std.specs.Prelude.{◌≡◌, ℕ, ◌<◌, ◌⊎◌, List, [], ◌∷◌, ◌++◌, Some, length, slice_get, Contains, true, false}
 use Rattle.dk_syntax.specs.declared.Clause.{Clause}
 use Rattle.dk_syntax.specs.declared.Literal.{Literal}
 use Rattle.dk_syntax.specs.declared.SymKey.{SymKey}
 use Rattle.dk_syntax.specs.declared.Term.{Term}
 use Rattle.normal_form.specs.declared.ClauseList.{ClauseList}
 use Rattle.normal_form.specs.declared.ClauseRow.{ClauseRow}
-use Rattle.dk_syntax.specs.Terms.{substituted}
-
--- A literal with its variables replaced.
-abbrev pub instance : (ℕ → Term) → Literal → Literal
-instance t literal = record literal { args = map (substituted t) literal.args }
+pub use Rattle.dk_syntax.specs.Terms.{instance}
 
 -- The instance of each literal of a clause stands in the target at its pick.
 abbrev pub Subsumes : (ℕ → Term) → List Literal → List Literal → List ℕ → Type 0

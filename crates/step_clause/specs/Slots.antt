@@ -7,7 +7,7 @@ use Rattle.step_clause.specs.declared.slots.Pivots.{Pivots}
 use Rattle.step_clause.specs.declared.slots.Side.{Side}
 use Rattle.step_clause.specs.declared.slots.Side.TheVariants.{Kept, Positive, Negative}
 use Rattle.step_clause.specs.declared.slots.Slot.{Slot}
-use Rattle.step_clause.specs.Candidates.{instance}
+use Rattle.dk_syntax.specs.Terms.{instance}
 
 -- The variables are numbered from n on.
 abbrev pub raising : ℕ → ℕ → Term

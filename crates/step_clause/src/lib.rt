@@ -13,6 +13,8 @@
 //! That is asked again of the literals after the first pivot, and before each choice whether a pivot that is wanted may
 //! still come. In the worst case the search takes time exponential in the number of literals, as subsumption does; it
 //! goes down by one recursion a literal.
+//!
+//! A law for the crates above stands in `proofs/Uniqueness` (a clause has one justification, `one_justification`).
 #![tactic(auto)]
 
 mod justification;

@@ -12,7 +12,7 @@ use crate::slots::{Pivots, Side, add_slots};
 use crate::values::closed_values;
 use dk_syntax::{Clause, NoMemory, Seq};
 use std::alloc::Global;
-use unifier::{Bindings, resolved};
+use unifier::{Bindings, settled};
 
 fn resolving_picks(
     alloc: Global,
@@ -99,7 +99,7 @@ pub fn resolve(
         None => Ok(None),
         Some(f) => {
             let from = target.vars.checked_add(first.vars).ok_or(NoMemory)?;
-            let solution = resolved(alloc, &f.bindings)?;
+            let solution = settled(alloc, &f.bindings)?;
             let pos_terms = closed_values(alloc, &solution, target.vars, target.vars, first.vars)?;
             let neg_terms = closed_values(alloc, &solution, target.vars, from, second.vars)?;
             let (pos_picks, neg_picks) = split(alloc, f.picks.as_slice(), first.lits.len())?;

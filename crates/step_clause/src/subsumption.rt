@@ -12,7 +12,7 @@ use crate::slots::{Pivots, Side, add_slots};
 use crate::values::closed_values;
 use dk_syntax::{Clause, NoMemory, Seq};
 use std::alloc::Global;
-use unifier::{Bindings, resolved};
+use unifier::{Bindings, settled};
 
 fn subsuming_picks(
     alloc: Global,
@@ -61,7 +61,7 @@ pub fn subsume(
     match found {
         None => Ok(None),
         Some(f) => {
-            let solution = resolved(alloc, &f.bindings)?;
+            let solution = settled(alloc, &f.bindings)?;
             let terms = closed_values(alloc, &solution, target.vars, target.vars, clause.vars)?;
             let Found { picks, bindings: _ } = f;
             Ok(Some(Justification::Subsume {

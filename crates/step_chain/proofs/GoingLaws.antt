@@ -10,20 +10,21 @@ use Rattle.dk_syntax.specs.declared.Term.{Term}
 use Rattle.normal_form.specs.ClauseLists.{quants_of}
 use Rattle.normal_form.specs.Renaming.{place_of, renamed_literal}
 use Rattle.normal_form.specs.declared.ClauseList.{ClauseList}
-use Rattle.step_clause.specs.Candidates.{affirmed, ArePicked, Candidate, denied, instance, IsClause, NoneWorks, resolution, Subsumes, subsumption, Works}
+use Rattle.dk_syntax.specs.Terms.{instance}
+use Rattle.step_clause.specs.Candidates.{affirmed, ArePicked, Candidate, denied, IsClause, NoneWorks, resolution, Subsumes, subsumption, Works}
 use Rattle.step_clause.specs.Justifications.{AreNumbered}
 use Rattle.step_clause.specs.Symbols.{AnyOf}
 use Rattle.step_clause.specs.declared.justification.Justification.{Justification}
 use Rattle.step_chain.proofs.Items.{same_some}
 use Rattle.step_chain.proofs.OnceLaws.{at_contains, contains_left, once_contains}
-use Rattle.step_chain.specs.Chains.{alone, Continues, ends, goes}
+use Rattle.step_chain.specs.Chains.{alone, IsContinuation, ends, goes}
 use Rattle.step_chain.specs.Resolvents.{AreTaken, IsResolvent, kept, Link, signed}
 use Rattle.step_chain.specs.Search.{HasContinuation, IsLeastOf}
-use Rattle.step_chain.specs.Symbols.{HasOne, IsOf, MayGo, NeedsMiddle}
+use Rattle.step_chain.specs.Symbols.{HasOne, IsOf, HasPartner, IsNotFromLast}
 
 -- the literal stands in the list
-abbrev Stands : List Literal → Literal → Type 0
-Stands ls l = (i : ℕ) × (slice_get ls i ≡ Some l)
+abbrev IsListed : List Literal → Literal → Type 0
+IsListed ls l = (i : ℕ) × (slice_get ls i ≡ Some l)
 
 map_at : {A B : Type 0} (f : A → B) (xs : List A) (k : ℕ) (x : A) → slice_get xs k ≡ Some x → slice_get (map f xs) k ≡ Some (f x)
 map_at f [] k x h = absurd (let w : None ≡ Some x = h in cc)
@@ -32,13 +33,13 @@ map_at f (y ∷ xs) (suc k) x h = map_at f xs k x h
 
 -- ---- the justification of the target
 
-subsumed : (t : ℕ → Term) (ds cs : List Literal) (picks : List ℕ) (l : Literal) (i : ℕ) → Subsumes t ds cs picks → slice_get cs i ≡ Some l → Stands ds (instance t l)
+subsumed : (t : ℕ → Term) (ds cs : List Literal) (picks : List ℕ) (l : Literal) (i : ℕ) → Subsumes t ds cs picks → slice_get cs i ≡ Some l → IsListed ds (instance t l)
 subsumed t ds [] picks l i h at = absurd (let w : None ≡ Some l = at in cc)
 subsumed t ds (c ∷ cs) [] l i h at = absurd h
 subsumed t ds (c ∷ cs) (p ∷ picks) l zero h at = (p, h.0 ∙ ap (λ z. Some (instance t z)) (same_some (Some c) c l refl at))
 subsumed t ds (c ∷ cs) (p ∷ picks) l (suc i) h at = subsumed t ds cs picks l i h.1 at
 
-picked : (t : ℕ → Term) (ds : List Literal) (pivot : Literal) (cs : List Literal) (picks : List ℕ) (l : Literal) (i : ℕ) → ArePicked t ds pivot cs picks → slice_get cs i ≡ Some l → Stands ds (instance t l) ⊎ (instance t l ≡ pivot)
+picked : (t : ℕ → Term) (ds : List Literal) (pivot : Literal) (cs : List Literal) (picks : List ℕ) (l : Literal) (i : ℕ) → ArePicked t ds pivot cs picks → slice_get cs i ≡ Some l → IsListed ds (instance t l) ⊎ (instance t l ≡ pivot)
 picked t ds pivot [] picks l i h at = absurd (let w : None ≡ Some l = at in cc)
 picked t ds pivot (c ∷ cs) [] l i h at = absurd h
 picked t ds pivot (c ∷ cs) (p ∷ picks) l zero h at = elim h.0 [
@@ -59,7 +60,7 @@ cut_one t ds pivot (c ∷ cs) (p ∷ picks) h (zero, less, is) = elim h.0 [
 cut_one t ds pivot (c ∷ cs) (p ∷ picks) h (suc k, less, is) =
     let w = cut_one t ds pivot cs picks h.1 (k, omega (arith, less), is) in (suc w.0, w.1, w.2, w.3)
 
-mate : (t : ℕ → Term) (ds : List Literal) (l : Literal) → Stands ds (instance t l) → AnyOf (IsOf l.positive l.pred) ds
+mate : (t : ℕ → Term) (ds : List Literal) (l : Literal) → IsListed ds (instance t l) → AnyOf (IsOf l.positive l.pred) ds
 mate t ds l w = (w.0, instance t l, w.1, (refl, refl))
 
 module _ (target middle : Clause) (last : ClauseList) (none : NoneWorks target (last ∷ [])) where
@@ -83,11 +84,11 @@ module _ (target middle : Clause) (last : ClauseList) (none : NoneWorks target (
   of_signed : (r : Literal → Type 0) (l m : Literal) → l ≡ m → r m → r l
   of_signed r l m e h = subst r (sym e) h
 
-  rivals_of : (t : ℕ → Term) (l : Literal) (sign : Bool) (pred : SymKey) (args : List Term) → instance t l ≡ signed sign pred args → AnyOf (HasOne (not sign) pred) (last ∷ []) → MayGo target (last ∷ []) l
+  rivals_of : (t : ℕ → Term) (l : Literal) (sign : Bool) (pred : SymKey) (args : List Term) → instance t l ≡ signed sign pred args → AnyOf (HasOne (not sign) pred) (last ∷ []) → HasPartner target (last ∷ []) l
   rivals_of t l sign pred args e h =
       inr (subst (λ z. AnyOf (HasOne (not z) l.pred) (last ∷ [])) (sym (ap (λ z. z.positive) e)) (subst (λ z. AnyOf (HasOne (not sign) z) (last ∷ [])) (sym (ap (λ z. z.pred) e)) h))
 
-  from_last : (candidate : Candidate) → Works target (alone middle ∷ last ∷ []) candidate → (l : Literal) (i : ℕ) → slice_get middle.lits i ≡ Some l → MayGo target (last ∷ []) l
+  from_last : (candidate : Candidate) → Works target (alone middle ∷ last ∷ []) candidate → (l : Literal) (i : ℕ) → slice_get middle.lits i ≡ Some l → HasPartner target (last ∷ []) l
   from_last (subsumption parent number picks) (clause, is, (t, h)) l i at = elim (clause_cases parent number clause is) [
     | inl e ↦ inl (mate t target.lits l (subsumed t target.lits middle.lits picks l i (subst (λ z. Subsumes t target.lits z.lits picks) e h) at))
     | inr e ↦ absurd (none (subsumption 0 number picks) (clause, e, (t, h)))
@@ -161,16 +162,16 @@ in_resolvent number first second link resolvent step is l i at =
 
 -- ---- chains
 
-pub needs_later : (target : Clause) (rest : List ClauseList) (next : ClauseList) (later : List ClauseList) → rest ≡ next ∷ later → NeedsMiddle target rest → NeedsMiddle target later
+pub needs_later : (target : Clause) (rest : List ClauseList) (next : ClauseList) (later : List ClauseList) → rest ≡ next ∷ later → IsNotFromLast target rest → IsNotFromLast target later
 needs_later target rest next later e h front last is = h (next ∷ front) last (e ∙ ap (λ z. next ∷ z) is)
 
-later_goes : (target : Clause) (next : ClauseList) (rest : List ClauseList) (l m : Literal) → IsOf l.positive l.pred m → MayGo target rest m → MayGo target (next ∷ rest) l
+later_goes : (target : Clause) (next : ClauseList) (rest : List ClauseList) (l m : Literal) → IsOf l.positive l.pred m → HasPartner target rest m → HasPartner target (next ∷ rest) l
 later_goes target next rest l m is (inl (k, d, at, (s, p))) = inl (k, d, at, (s ∙ is.0, p ∙ is.1))
 later_goes target next rest l m is (inr (k, list, at, (n, row, at', (j, d, at'', (s, p))))) = inr (suc k, list, at, (n, row, at', (j, d, at'', (s ∙ ap not is.0, p ∙ is.1))))
 
 module _ (target : Clause) where
-  each_goes : {number : ℕ} {middle : Clause} {rest : List ClauseList} {links : List Link} {mids : List Clause} {steps : List Justification} → Continues target number middle rest links mids steps
-      → NeedsMiddle target rest → (l : Literal) (i : ℕ) → slice_get middle.lits i ≡ Some l → MayGo target rest l
+  each_goes : {number : ℕ} {middle : Clause} {rest : List ClauseList} {links : List Link} {mids : List Clause} {steps : List Justification} → IsContinuation target number middle rest links mids steps
+      → IsNotFromLast target rest → (l : Literal) (i : ℕ) → slice_get middle.lits i ≡ Some l → HasPartner target rest l
   each_goes (ends number middle last step is) needs l i at = from_last target middle last (needs [] last refl) _ is.0.0 l i at
   each_goes (goes number middle next rest link links row resolvent mids step steps there is more) needs l i at =
       elim (in_resolvent number middle row.clause link resolvent step is l i at) [
@@ -178,7 +179,7 @@ module _ (target : Clause) where
         | inr w ↦ later_goes target next rest l w.1 w.3 (each_goes more (needs_later target (next ∷ rest) next rest refl needs) w.1 w.0 w.2)
       ]
 
-  pub hopeless : (number : ℕ) (middle : Clause) (rest : List ClauseList) (needs result : Bool) → (needs ≡ true → NeedsMiddle target rest) → OnTrue result ((needs ≡ true) × ((All (MayGo target rest) middle.lits) → ⊥)) → result ≡ true
+  pub hopeless : (number : ℕ) (middle : Clause) (rest : List ClauseList) (needs result : Bool) → (needs ≡ true → IsNotFromLast target rest) → OnTrue result ((needs ≡ true) × ((All (HasPartner target rest) middle.lits) → ⊥)) → result ≡ true
       → IsLeastOf (HasContinuation target number middle rest) None
   hopeless number middle rest needs false does says is = absurd (let w : false ≡ true = is in cc)
   hopeless number middle rest needs true does says is = λ key chain h.
@@ -194,7 +195,7 @@ last_one (a ∷ []) [] x y h = cc
 last_one (a ∷ c ∷ xs) [] x y h = cc
 last_one (a ∷ xs) (b ∷ ys) x y h = last_one xs ys x y (let tail : xs ++ x ∷ [] ≡ ys ++ y ∷ [] = cc in tail)
 
-pub needs_it : (target : Clause) (rest front : List ClauseList) (last : ClauseList) → rest ≡ front ++ last ∷ [] → NoneWorks target (last ∷ []) → NeedsMiddle target rest
+pub needs_it : (target : Clause) (rest front : List ClauseList) (last : ClauseList) → rest ≡ front ++ last ∷ [] → NoneWorks target (last ∷ []) → IsNotFromLast target rest
 needs_it target rest front last e none front' last' e' = subst (λ z. NoneWorks target (z ∷ [])) (last_one front front' last last' (sym e ∙ e')) none
 
 last_of : (front : List ClauseList) (last : ClauseList) → AreNumbered (front ++ last ∷ []) → AreNumbered (last ∷ [])

@@ -10,14 +10,13 @@ use Rattle.dk_syntax.specs.declared.Term.{Term}
 use Rattle.dk_syntax.specs.declared.Term.TheVariants.{Any, Var}
 use Rattle.normal_form.specs.ClauseLists.{clause_over, has_number, literal_variables, quants_of, variables_of, with_number, with_numbers}
 use Rattle.normal_form.specs.Renaming.{place_of, renamed, renamed_literal}
-use Rattle.step_clause.specs.Candidates.{instance}
 use Rattle.step_clause.specs.Justifications.{IsNumbered}
 use Rattle.dk_syntax.proofs.SubstitutionLaws.{agree, comes, has_variable-Any, has_variable-App, has_variable-Var}
 use Rattle.std.proofs.lemmas.Bool.{or_left, or_right}
-use Rattle.dk_syntax.specs.Terms.{any_true, EachBelow, has_variable, substituted}
+use Rattle.dk_syntax.specs.Terms.{any_true, EachBelow, has_variable, instance, substituted}
 use Rattle.step_chain.proofs.BackAndForth.{variables-App, variables-Var}
 use Rattle.step_chain.proofs.SameLiterals.{renames, with_args}
-use Rattle.step_chain.specs.Resolvents.{settled}
+use Rattle.step_chain.specs.Resolvents.{closed_over}
 
 has_left : (xs ys : List ℕ) (x : ℕ) → has_number xs x ≡ true → has_number (xs ++ ys) x ≡ true
 has_left [] ys x h = cc
@@ -104,25 +103,25 @@ over_below q (l ∷ lits) inside (suc k) d less = over_below q lits (λ x w. ins
 pub over_numbered : (lits : List Literal) → IsNumbered (clause_over (quants_of lits) lits)
 over_numbered lits = over_below (quants_of lits) lits (λ x w. adds [] (joined (map literal_variables lits)) x w)
 
--- ---- settled variables are renamed ones
+-- ---- variables that are closed over are renamed
 
-settled_term : (q : List ℕ) (a : Term) → ((x : ℕ) → has_number (variables_of a) x ≡ true → has_number q x ≡ true) → substituted (settled q) a ≡ renamed (place_of q) a
-settled_term q a inside =
-    agree (settled q) (λ k. Var (place_of q k)) a (λ k e. ap (λ b. cond b (Var (place_of q k)) Any) (inside k (in_vars k a e))) ∙ sym (renames (place_of q) a)
+closed_term : (q : List ℕ) (a : Term) → ((x : ℕ) → has_number (variables_of a) x ≡ true → has_number q x ≡ true) → substituted (closed_over q) a ≡ renamed (place_of q) a
+closed_term q a inside =
+    agree (closed_over q) (λ k. Var (place_of q k)) a (λ k e. ap (λ b. cond b (Var (place_of q k)) Any) (inside k (in_vars k a e))) ∙ sym (renames (place_of q) a)
 
-settled_args : (q : List ℕ) (args : List Term) → ((x : ℕ) → has_number (joined (map variables_of args)) x ≡ true → has_number q x ≡ true) → map (substituted (settled q)) args ≡ map (renamed (place_of q)) args
-settled_args q [] inside = refl
-settled_args q (a ∷ args) inside =
-    ap₂ (λ x y. x ∷ y) (settled_term q a (λ x w. inside x (has_left (variables_of a) (joined (map variables_of args)) x w)))
-    (settled_args q args (λ x w. inside x (has_right (variables_of a) (joined (map variables_of args)) x w)))
+closed_args : (q : List ℕ) (args : List Term) → ((x : ℕ) → has_number (joined (map variables_of args)) x ≡ true → has_number q x ≡ true) → map (substituted (closed_over q)) args ≡ map (renamed (place_of q)) args
+closed_args q [] inside = refl
+closed_args q (a ∷ args) inside =
+    ap₂ (λ x y. x ∷ y) (closed_term q a (λ x w. inside x (has_left (variables_of a) (joined (map variables_of args)) x w)))
+    (closed_args q args (λ x w. inside x (has_right (variables_of a) (joined (map variables_of args)) x w)))
 
-settled_all : (q : List ℕ) (lits : List Literal) → ((x : ℕ) → has_number (joined (map literal_variables lits)) x ≡ true → has_number q x ≡ true) → map (instance (settled q)) lits ≡ map (renamed_literal (place_of q)) lits
-settled_all q [] inside = refl
-settled_all q (l ∷ lits) inside =
+closed_all : (q : List ℕ) (lits : List Literal) → ((x : ℕ) → has_number (joined (map literal_variables lits)) x ≡ true → has_number q x ≡ true) → map (instance (closed_over q)) lits ≡ map (renamed_literal (place_of q)) lits
+closed_all q [] inside = refl
+closed_all q (l ∷ lits) inside =
     ap₂ (λ x y. x ∷ y)
-    (ap (with_args l) (settled_args q l.args (λ x w. inside x (has_left (literal_variables l) (joined (map literal_variables lits)) x w))))
-    (settled_all q lits (λ x w. inside x (has_right (literal_variables l) (joined (map literal_variables lits)) x w)))
+    (ap (with_args l) (closed_args q l.args (λ x w. inside x (has_left (literal_variables l) (joined (map literal_variables lits)) x w))))
+    (closed_all q lits (λ x w. inside x (has_right (literal_variables l) (joined (map literal_variables lits)) x w)))
 
--- the literals settled are those of the clause made of them
-pub settled_literals : (lits : List Literal) → map (instance (settled (quants_of lits))) lits ≡ (clause_over (quants_of lits) lits).lits
-settled_literals lits = settled_all (quants_of lits) lits (λ x w. adds [] (joined (map literal_variables lits)) x w)
+-- the literals closed over their variables are those of the clause made of them
+pub closed_literals : (lits : List Literal) → map (instance (closed_over (quants_of lits))) lits ≡ (clause_over (quants_of lits) lits).lits
+closed_literals lits = closed_all (quants_of lits) lits (λ x w. adds [] (joined (map literal_variables lits)) x w)

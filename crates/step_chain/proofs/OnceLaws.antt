@@ -3,7 +3,7 @@ use Rattle.std.proofs.Common.{◌≡◌, ◌≤◌, ℕ, zero, suc, ◌+◌, Boo
 use Rattle.dk_syntax.specs.declared.Literal.{Literal}
 use Rattle.step_chain.proofs.Items.{same_some}
 use Rattle.step_chain.specs.Resolvents.{again, IsOnce, kept, new, none}
-use Rattle.step_chain.specs.Resolving.{AddsOnce, AreContained, AreInstancePicks}
+use Rattle.step_chain.specs.Resolving.{AreAddedOnce, AreContained, AreInstancePicks}
 
 -- ---- what a list contains
 
@@ -47,19 +47,19 @@ once_contains (again seen y rest once there w) x (suc k, less, is) = once_contai
 once_contains (new seen y rest once absent w) x (zero, less, is) = contains_right seen (y ∷ once) x (subst (Contains (y ∷ once)) is (zero, omega arith, refl))
 once_contains (new seen y rest once absent w) x (suc k, less, is) = subst (λ z. Contains z x) (append_assoc seen (y ∷ []) once) (once_contains w x (k, omega (arith, less), is))
 
-pub adds_start : (old : List Literal) → AddsOnce old [] old
+pub adds_start : (old : List Literal) → AreAddedOnce old [] old
 adds_start old = ([], none old, append_nothing old)
   where
     append_nothing : (l : List Literal) → l ≡ l ++ []
     append_nothing [] = refl
     append_nothing (x ∷ l) = ap (λ z. x ∷ z) (append_nothing l)
 
-pub adds_new : (old xs all : List Literal) (x : Literal) → AddsOnce old xs all → (Contains all x → ⊥) → AddsOnce old (xs ++ x ∷ []) (all ++ x ∷ [])
+pub adds_new : (old xs all : List Literal) (x : Literal) → AreAddedOnce old xs all → (Contains all x → ⊥) → AreAddedOnce old (xs ++ x ∷ []) (all ++ x ∷ [])
 adds_new old xs all x h absent =
     let absent' : Contains (old ++ h.0) x → ⊥ = subst (λ z. Contains z x → ⊥) h.2 absent in
     (h.0 ++ x ∷ [], once_append h.1 (x ∷ []) (x ∷ []) (new (old ++ h.0) x [] [] absent' (none ((old ++ h.0) ++ x ∷ []))), ap (λ z. z ++ x ∷ []) h.2 ∙ append_assoc old h.0 (x ∷ []))
 
-pub adds_again : (old xs all : List Literal) (x : Literal) → AddsOnce old xs all → Contains all x → AddsOnce old (xs ++ x ∷ []) all
+pub adds_again : (old xs all : List Literal) (x : Literal) → AreAddedOnce old xs all → Contains all x → AreAddedOnce old (xs ++ x ∷ []) all
 adds_again old xs all x h there =
     (h.0, subst (IsOnce old (xs ++ x ∷ [])) (nothing_after h.0) (once_append h.1 (x ∷ []) [] (again (old ++ h.0) x [] [] (subst (λ z. Contains z x) h.2 there) (none (old ++ h.0)))), h.2)
   where
@@ -67,11 +67,11 @@ adds_again old xs all x h there =
     nothing_after [] = refl
     nothing_after (y ∷ l) = ap (λ z. y ∷ z) (nothing_after l)
 
-adds_then : (old xs mid ys all : List Literal) → AddsOnce old xs mid → AddsOnce mid ys all → AddsOnce old (xs ++ ys) all
+adds_then : (old xs mid ys all : List Literal) → AreAddedOnce old xs mid → AreAddedOnce mid ys all → AreAddedOnce old (xs ++ ys) all
 adds_then old xs mid ys all h k =
     (h.0 ++ k.0, once_append h.1 ys k.0 (subst (λ z. IsOnce z ys k.0) h.2 k.1), k.2 ∙ ap (λ z. z ++ k.0) h.2 ∙ append_assoc old h.0 k.0)
 
-pub adds_both : (xs a ys b : List Literal) → AddsOnce [] xs a → AddsOnce a ys b → IsOnce [] (xs ++ ys) b
+pub adds_both : (xs a ys b : List Literal) → AreAddedOnce [] xs a → AreAddedOnce a ys b → IsOnce [] (xs ++ ys) b
 adds_both xs a ys b h k = subst (IsOnce [] (xs ++ ys)) (sym (k.2 ∙ ap (λ z. z ++ k.0) h.2)) (once_append h.1 ys k.0 (subst (λ z. IsOnce z ys k.0) h.2 k.1))
 
 each_contained : (lits xs : List Literal) → ((x : Literal) → Contains xs x → Contains lits x) → AreContained lits xs
@@ -79,10 +79,10 @@ each_contained lits [] h k d less = absurd (omega arith)
 each_contained lits (x ∷ xs) h zero d less = h x (zero, omega arith, refl)
 each_contained lits (x ∷ xs) h (suc k) d less = each_contained lits xs (λ y w. h y (suc w.0, omega (arith, w.1), w.2)) k d (omega arith)
 
-pub adds_contained : (old xs all : List Literal) → AddsOnce old xs all → AreContained all xs
+pub adds_contained : (old xs all : List Literal) → AreAddedOnce old xs all → AreContained all xs
 adds_contained old xs all h = each_contained all xs (λ x w. subst (λ z. Contains z x) (sym h.2) (once_contains h.1 x w))
 
-pub contained_later : (old xs all zs : List Literal) → AddsOnce old xs all → AreContained old zs → AreContained all zs
+pub contained_later : (old xs all zs : List Literal) → AreAddedOnce old xs all → AreContained old zs → AreContained all zs
 contained_later old xs all zs h c k d less = subst (λ z. Contains z (get_or zs k d)) (sym h.2) (contains_left old h.0 (get_or zs k d) (c k d less))
 
 -- ---- along a list
@@ -97,20 +97,20 @@ kept_next (y ∷ literals) (true ∷ taken) (suc k) x b at is = kept_next litera
 kept_next (y ∷ literals) (false ∷ taken) (suc k) x b at is = ap (λ z. y ∷ z) (kept_next literals taken k x b at is)
 
 pub adds_next : (old mid all literals : List Literal) (taken : List Bool) (k : ℕ) (x : Literal) (b : Bool) → slice_get literals k ≡ Some x → slice_get taken k ≡ Some b
-    → AddsOnce old (kept (take k literals) (take k taken)) mid → AddsOnce mid (kept (x ∷ []) (b ∷ [])) all → AddsOnce old (kept (take (k + 1) literals) (take (k + 1) taken)) all
+    → AreAddedOnce old (kept (take k literals) (take k taken)) mid → AreAddedOnce mid (kept (x ∷ []) (b ∷ [])) all → AreAddedOnce old (kept (take (k + 1) literals) (take (k + 1) taken)) all
 adds_next old mid all literals taken k x b at is h w =
     let e : suc k ≡ k + 1 = omega arith in
-    subst (λ z. AddsOnce old (kept (take z literals) (take z taken)) all) e
-    (subst (λ z. AddsOnce old z all) (sym (kept_next literals taken k x b at is)) (adds_then old (kept (take k literals) (take k taken)) mid (kept (x ∷ []) (b ∷ [])) all h w))
+    subst (λ z. AreAddedOnce old (kept (take z literals) (take z taken)) all) e
+    (subst (λ z. AreAddedOnce old z all) (sym (kept_next literals taken k x b at is)) (adds_then old (kept (take k literals) (take k taken)) mid (kept (x ∷ []) (b ∷ [])) all h w))
 
-pub adds_taken : (old : List Literal) (x : Literal) (b : Bool) → b ≡ true → AddsOnce old (kept (x ∷ []) (b ∷ [])) old
-adds_taken old x b e = subst (λ z. AddsOnce old (kept (x ∷ []) (z ∷ [])) old) (sym e) (adds_start old)
+pub adds_taken : (old : List Literal) (x : Literal) (b : Bool) → b ≡ true → AreAddedOnce old (kept (x ∷ []) (b ∷ [])) old
+adds_taken old x b e = subst (λ z. AreAddedOnce old (kept (x ∷ []) (z ∷ [])) old) (sym e) (adds_start old)
 
-pub adds_there : (old : List Literal) (x : Literal) (b : Bool) → b ≡ false → Contains old x → AddsOnce old (kept (x ∷ []) (b ∷ [])) old
-adds_there old x b e there = subst (λ z. AddsOnce old (kept (x ∷ []) (z ∷ [])) old) (sym e) (adds_again old [] old x (adds_start old) there)
+pub adds_there : (old : List Literal) (x : Literal) (b : Bool) → b ≡ false → Contains old x → AreAddedOnce old (kept (x ∷ []) (b ∷ [])) old
+adds_there old x b e there = subst (λ z. AreAddedOnce old (kept (x ∷ []) (z ∷ [])) old) (sym e) (adds_again old [] old x (adds_start old) there)
 
-pub adds_other : (old : List Literal) (x : Literal) (b : Bool) → b ≡ false → (Contains old x → ⊥) → AddsOnce old (kept (x ∷ []) (b ∷ [])) (old ++ x ∷ [])
-adds_other old x b e absent = subst (λ z. AddsOnce old (kept (x ∷ []) (z ∷ [])) (old ++ x ∷ [])) (sym e) (adds_new old [] old x (adds_start old) absent)
+pub adds_other : (old : List Literal) (x : Literal) (b : Bool) → b ≡ false → (Contains old x → ⊥) → AreAddedOnce old (kept (x ∷ []) (b ∷ [])) (old ++ x ∷ [])
+adds_other old x b e absent = subst (λ z. AreAddedOnce old (kept (x ∷ []) (z ∷ [])) (old ++ x ∷ [])) (sym e) (adds_new old [] old x (adds_start old) absent)
 
 pub kept_all : (literals : List Literal) (taken : List Bool) (k : ℕ) → length literals ≤ k → length taken ≡ length literals → kept (take k literals) (take k taken) ≡ kept literals taken
 kept_all [] taken k less long = by_number k

@@ -10,7 +10,7 @@ use Rattle.step_chain.proofs.Items.{same_some}
 use Rattle.step_chain.proofs.LinkKeys.{Level, one_link, row_numbered, split}
 use Rattle.step_chain.proofs.Numbered.{over_numbered}
 use Rattle.step_chain.proofs.OneResolvent.{one_resolvent}
-use Rattle.step_chain.specs.Chains.{alone, Continues, ends, goes, IsChainAnswer, IsLeastChain, link_key, way_key}
+use Rattle.step_chain.specs.Chains.{alone, IsContinuation, ends, goes, IsChainAnswer, IsLeastChain, link_key, way_key}
 use Rattle.step_chain.specs.Resolvents.{IsResolvent, Link}
 use Rattle.step_chain.specs.declared.chain.Chain.{Chain}
 
@@ -31,8 +31,8 @@ head_number x y h = cc
 -- ---- from a middle clause on
 
 module _ (target : Clause) where
-  one_continuation : {k : ℕ} {middle : Clause} {rest : List ClauseList} {links : List Link} {mids : List Clause} {steps : List Justification} → Continues target k middle rest links mids steps
-      → (others : List Link) (mids' : List Clause) (steps' : List Justification) → Continues target k middle rest others mids' steps' → IsNumbered middle → AreNumbered rest
+  one_continuation : {k : ℕ} {middle : Clause} {rest : List ClauseList} {links : List Link} {mids : List Clause} {steps : List Justification} → IsContinuation target k middle rest links mids steps
+      → (others : List Link) (mids' : List Clause) (steps' : List Justification) → IsContinuation target k middle rest others mids' steps' → IsNumbered middle → AreNumbered rest
       → Level (joined (map link_key links)) (joined (map link_key others)) → (mids ≡ mids') × (steps ≡ steps')
   one_continuation (ends k middle last step is) _ _ _ (ends _ _ _ step' is') n ns level =
       (refl, ap (λ s. s ∷ []) (same_some (Some step) step step' refl (one_justification target (alone middle ∷ last ∷ []) (Some step) (Some step') is is')))
@@ -44,7 +44,7 @@ module _ (target : Clause) where
       let is2 : IsResolvent k middle row.clause link m' step' = subst (λ z. IsResolvent k middle row.clause z m' step') (sym l.0) (subst (λ z. IsResolvent k middle z.clause link' m' step') o is1) in
       let w = one_resolvent k middle row.clause link m m' step step' n (row_numbered (λ z. IsNumbered z.clause) next.rows link.number row (first_numbered next rest ns) at) is is2 in
       let nm : IsNumbered m = subst IsNumbered (sym is.clause) (over_numbered is.lits) in
-      let others_are = one_continuation more links' mids' steps' (subst (λ z. Continues target 0 z rest links' mids' steps') (sym w.0) more1) nm (rest_numbered next rest ns) l.1 in
+      let others_are = one_continuation more links' mids' steps' (subst (λ z. IsContinuation target 0 z rest links' mids' steps') (sym w.0) more1) nm (rest_numbered next rest ns) l.1 in
       (ap₂ (λ x y. x ∷ y) w.0 others_are.0, ap₂ (λ x y. x ∷ y) w.1 others_are.1)
 
 -- ---- chains
@@ -61,10 +61,10 @@ one_least_chain target parents n c d (way, x, least) (other, y, least') =
     let start : other.start ≡ way.start = head_number other.start way.start (sym s.0) in
     let at : slice_get x.first.rows way.start ≡ Some y.row = subst (λ z. slice_get x.first.rows z ≡ Some y.row) start (subst (λ z. slice_get z.rows other.start ≡ Some y.row) (sym parts.0) y.at) in
     let row : y.row ≡ x.row = same_some (slice_get x.first.rows way.start) y.row x.row at x.at in
-    let more : Continues target way.start x.row.clause x.rest other.links d.mids d.steps =
-    subst (λ z. Continues target z x.row.clause x.rest other.links d.mids d.steps) start
-    (subst (λ z. Continues target other.start z.clause x.rest other.links d.mids d.steps) row
-    (subst (λ z. Continues target other.start y.row.clause z other.links d.mids d.steps) (sym parts.1) y.continues)) in
+    let more : IsContinuation target way.start x.row.clause x.rest other.links d.mids d.steps =
+    subst (λ z. IsContinuation target z x.row.clause x.rest other.links d.mids d.steps) start
+    (subst (λ z. IsContinuation target other.start z.clause x.rest other.links d.mids d.steps) row
+    (subst (λ z. IsContinuation target other.start y.row.clause z other.links d.mids d.steps) (sym parts.1) y.continues)) in
     let nm : IsNumbered x.row.clause = row_numbered (λ z. IsNumbered z.clause) x.first.rows way.start x.row (first_numbered x.first x.rest nx) x.at in
     let w = one_continuation target x.continues other.links d.mids d.steps more nm (rest_numbered x.first x.rest nx) s.1 in
     ap₂ chain_with w.0 w.1

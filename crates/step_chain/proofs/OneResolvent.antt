@@ -6,16 +6,15 @@ use Rattle.dk_syntax.specs.declared.Clause.{Clause}
 use Rattle.dk_syntax.specs.declared.Literal.{Literal}
 use Rattle.dk_syntax.specs.declared.Term.{Term}
 use Rattle.normal_form.specs.ClauseLists.{clause_over, quants_of}
-use Rattle.step_clause.specs.Candidates.{instance}
 use Rattle.step_clause.specs.Justifications.{IsNumbered}
 use Rattle.step_clause.specs.declared.justification.Justification.{Justification}
 use Rattle.dk_syntax.proofs.SubstitutionLaws.{after, agree}
 use Rattle.std.proofs.lemmas.Bool.{or_left, or_right}
-use Rattle.dk_syntax.specs.Terms.{any_true, EachBelow, has_variable, substituted}
+use Rattle.dk_syntax.specs.Terms.{any_true, EachBelow, has_variable, instance, substituted}
 use Rattle.step_chain.proofs.BackAndForth.{new, Returns}
 use Rattle.step_chain.proofs.Items.{same_some}
 use Rattle.step_chain.proofs.SameLiterals.{clause_new, each_join, length_map, LitReturns, map_join, once_each, once_new, one_place, quants_back, quants_new, terms_new, with_args}
-use Rattle.step_chain.specs.Resolvents.{ArePicks, IsOnce, IsResolvent, left_over, Link, resolution_by, kept, settled_terms}
+use Rattle.step_chain.specs.Resolvents.{ArePicks, IsOnce, IsResolvent, left_over, Link, resolution_by, kept, closed_terms_over}
 
 -- ---- numbered literals
 
@@ -105,10 +104,10 @@ one_resolvent number c d link m m' step step' nc nd x y =
     let q = quants_of x.lits in
     let qb = quants_back r b x.lits ret_x in
     let quants : quants_of y.lits ≡ map (new r b) q = ap quants_of lits_is ∙ quants_new r b x.lits ret_x in
-    let terms : settled_terms (quants_of y.lits) c.vars y.t ≡ settled_terms q c.vars x.t =
-    ap (λ z. settled_terms z c.vars y.t) quants ∙ terms_new r b q qb c.vars x.t y.t there.2 (term_returns c.vars r b x.t y.t there.2 back.2) in
-    let terms' : settled_terms (quants_of y.lits) d.vars y.u ≡ settled_terms q d.vars x.u =
-    ap (λ z. settled_terms z d.vars y.u) quants ∙ terms_new r b q qb d.vars x.u y.u there.3 (term_returns d.vars r b x.u y.u there.3 back.3) in
+    let terms : closed_terms_over (quants_of y.lits) c.vars y.t ≡ closed_terms_over q c.vars x.t =
+    ap (λ z. closed_terms_over z c.vars y.t) quants ∙ terms_new r b q qb c.vars x.t y.t there.2 (term_returns c.vars r b x.t y.t there.2 back.2) in
+    let terms' : closed_terms_over (quants_of y.lits) d.vars y.u ≡ closed_terms_over q d.vars x.u =
+    ap (λ z. closed_terms_over z d.vars y.u) quants ∙ terms_new r b q qb d.vars x.u y.u there.3 (term_returns d.vars r b x.u y.u there.3 back.3) in
     let picks : y.picks ≡ x.picks =
     one_picks c.vars r b x.t y.t there.2 back.2 x.lits x.once ret_x c.lits link.taken x.picks y.picks below x.picked (subst (λ z. ArePicks z y.t c.lits link.taken y.picks) lits_is y.picked) in
     let picks' : y.other_picks ≡ x.other_picks =
@@ -116,6 +115,6 @@ one_resolvent number c d link m m' step step' nc nd x y =
     (subst (λ z. ArePicks z y.u d.lits link.others y.other_picks) lits_is y.other_picked) in (
       x.clause ∙ sym (clause_new r b x.lits ret_x) ∙ ap (λ z. clause_over (quants_of z) z) (sym lits_is) ∙ sym y.clause,
       x.justified ∙ sym (y.justified
-          ∙ ap₂ (λ p s. resolution_by link.sign number link.number p y.other_picks s (settled_terms (quants_of y.lits) d.vars y.u)) picks terms
-          ∙ ap₂ (λ p s. resolution_by link.sign number link.number x.picks p (settled_terms q c.vars x.t) s) picks' terms'),
+          ∙ ap₂ (λ p s. resolution_by link.sign number link.number p y.other_picks s (closed_terms_over (quants_of y.lits) d.vars y.u)) picks terms
+          ∙ ap₂ (λ p s. resolution_by link.sign number link.number x.picks p (closed_terms_over q c.vars x.t) s) picks' terms'),
     )

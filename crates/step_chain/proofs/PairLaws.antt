@@ -4,12 +4,11 @@ use Rattle.std.specs.Prelude.{if◌then◌else◌, nat_lt}
 use Rattle.std.proofs.lemmas.Bool.{or_left, or_right}
 use Rattle.std.proofs.lemmas.Bool.Decides.{nat_tests}
 use Rattle.dk_syntax.proofs.SubstitutionLaws.{after, agree, comes_in_list, is_variable, substituted-Var}
-use Rattle.dk_syntax.specs.Terms.{any_true, EachBelow, has_variable, substituted}
+use Rattle.dk_syntax.specs.Terms.{any_true, EachBelow, has_variable, instance, substituted}
 use Rattle.dk_syntax.specs.declared.Clause.{Clause}
 use Rattle.dk_syntax.specs.declared.Literal.{Literal}
 use Rattle.dk_syntax.specs.declared.SymKey.{SymKey}
 use Rattle.dk_syntax.specs.declared.Term.{Term}
-use Rattle.step_clause.specs.Candidates.{instance}
 use Rattle.step_clause.specs.Justifications.{IsNumbered, LiteralsBelow}
 use Rattle.step_chain.proofs.SameLiterals.{length_map, with_args}
 use Rattle.step_chain.specs.declared.pair.Slot.{Slot}

@@ -1,13 +1,12 @@
 -- What is made from most general bindings is the exact resolvent.
 use Rattle.std.proofs.Common.{◌≡◌, ◌<◌, ◌≤◌, ℕ, zero, suc, ◌+◌, Bool, true, false, not, List, [], ◌∷◌, ◌++◌, map, take, drop, length, Option, Some, None, Contains, refl, sym, ap, ap₂, ◌∙◌, subst, arith, length-append, inl, inr}
-use Rattle.dk_syntax.specs.Terms.{substituted}
+use Rattle.dk_syntax.specs.Terms.{instance, substituted}
 use Rattle.dk_syntax.specs.declared.Clause.{Clause}
 use Rattle.dk_syntax.specs.declared.Literal.{Literal}
 use Rattle.dk_syntax.specs.declared.Term.{Term}
-use Rattle.step_clause.specs.Candidates.{instance}
 use Rattle.step_clause.specs.Justifications.{AreMostGeneral, IsNumbered}
 use Rattle.unifier.proofs.BoundLaws.{unbound_refined}
-use Rattle.unifier.proofs.ResolutionLaws.{refines_itself}
+use Rattle.unifier.proofs.SettlingLaws.{refines_itself}
 use Rattle.unifier.specs.Substitution.{Refines, SameInstances, Settled, value}
 use Rattle.step_chain.proofs.LinkKeys.{taken_long}
 use Rattle.step_chain.proofs.OnceLaws.{contains_left}

@@ -9,12 +9,13 @@ use Rattle.dk_syntax.specs.declared.Term.{Term}
 use Rattle.dk_syntax.specs.declared.Term.TheVariants.{Var}
 use Rattle.normal_form.specs.declared.ClauseList.{ClauseList}
 use Rattle.normal_form.specs.declared.ClauseRow.{ClauseRow}
-use Rattle.step_clause.specs.Candidates.{affirmed, Before, Candidate, Cuts, denied, instance, IsClause, IsListBefore, IsPicked, resolution, Subsumes, subsumption, Works}
+use Rattle.dk_syntax.specs.Terms.{instance}
+use Rattle.step_clause.specs.Candidates.{affirmed, Before, Candidate, Cuts, denied, IsClause, IsListBefore, IsPicked, resolution, Subsumes, subsumption, Works}
 use Rattle.step_clause.specs.Justifications.{HasTerms, IsJustification}
 use Rattle.step_clause.specs.declared.justification.Justification.{Justification}
 use Rattle.step_clause.specs.declared.justification.Justification.TheVariants.{Resolve}
 use Rattle.step_chain.proofs.Items.{same_some, some_or_none}
-use Rattle.step_chain.specs.Chains.{alone, bit, Continues, ends, goes, IsChain, IsLeastChain, link_key, Way, way_key}
+use Rattle.step_chain.specs.Chains.{alone, bit, IsContinuation, ends, goes, IsChain, IsLeastChain, link_key, Way, way_key}
 use Rattle.step_chain.specs.Resolvents.{AreTaken, AreUnified, IsResolvent, Link, new, none, signed}
 use Rattle.step_chain.specs.declared.chain.Chain.{Chain}
 
@@ -252,7 +253,7 @@ number_zero k ns ms (inl less) = absurd (omega (arith, less))
 number_zero k ns ms (inr w) = w.0
 
 -- nothing continues by a lesser way
-none_before_it : (k : ℕ) (middle : Clause) (rest : List ClauseList) (links : List Link) (mids : List Clause) (steps : List Justification) → Continues target k middle rest links mids steps
+none_before_it : (k : ℕ) (middle : Clause) (rest : List ClauseList) (links : List Link) (mids : List Clause) (steps : List Justification) → IsContinuation target k middle rest links mids steps
     → middle ≡ ground_clause (atom true p ∷ []) → rest ≡ listed (atom false p ∷ atom true q ∷ []) ∷ last_list ∷ [] → IsListBefore (k ∷ joined (map link_key links)) (0 ∷ 0 ∷ 0 ∷ 1 ∷ 1 ∷ 0 ∷ []) → ⊥
 none_before_it k _ _ _ _ _ (ends _ _ last step is) m r before = cc
 none_before_it k _ _ _ _ _ (goes _ middle next rest one links second resolvent mids step steps at is more) m r (inl less) = omega (arith, less)

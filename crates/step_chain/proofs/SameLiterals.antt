@@ -11,12 +11,11 @@ use Rattle.dk_syntax.specs.declared.Term.{Term, the_lemmas as of_terms}
 use Rattle.dk_syntax.specs.declared.Term.TheVariants.{Any, App, Var}
 use Rattle.normal_form.specs.ClauseLists.{clause_over, literal_variables, quants_of, variables_of, with_numbers}
 use Rattle.normal_form.specs.Renaming.{place_of, renamed, renamed_literal}
-use Rattle.step_clause.specs.Candidates.{instance}
 use Rattle.dk_syntax.proofs.SubstitutionLaws.{substituted-Any, substituted-App, substituted-Var}
-use Rattle.dk_syntax.specs.Terms.{substituted}
+use Rattle.dk_syntax.specs.Terms.{instance, substituted}
 use Rattle.step_chain.proofs.BackAndForth.{Back, follow, follow_all, has_new, new, numbers_back, numbers_new, place_new, Returns, vars_back, vars_back_all, vars_map, vars_map_all}
 use Rattle.step_chain.proofs.Items.{same_some}
-use Rattle.step_chain.specs.Resolvents.{again, IsOnce, new as is_new, none, settled, settled_terms}
+use Rattle.step_chain.specs.Resolvents.{again, closed_over, closed_terms_over, IsOnce, new as is_new, none}
 
 -- ---- renaming is a substitution
 
@@ -170,9 +169,9 @@ module _ (r b : ℕ → Term) where
       let y = range_same f g (a + 1) n (λ j l. h j (omega arith)) in cc
 
   pub terms_new : (q : List ℕ) → ForEach (Back r b) q → (v : ℕ) (t t' : ℕ → Term) → ((j : ℕ) → j < v → t' j ≡ substituted r (t j)) → ((j : ℕ) → j < v → Returns r b (t j))
-      → settled_terms (map (new r b) q) v t' ≡ settled_terms q v t
+      → closed_terms_over (map (new r b) q) v t' ≡ closed_terms_over q v t
   terms_new q back v t t' to returns =
-      range_same (λ j. substituted (settled (map (new r b) q)) (t' j)) (λ j. substituted (settled q) (t j)) 0 v (λ j less.
+      range_same (λ j. substituted (closed_over (map (new r b) q)) (t' j)) (λ j. substituted (closed_over q) (t j)) 0 v (λ j less.
       let l : j < v = omega arith in
-      ap (substituted (settled (map (new r b) q))) (to j l)
-      ∙ follow r b (settled (map (new r b) q)) (settled q) (λ x k. ap₂ (λ c p. cond c (Var p) Any) (has_new r b q x back k) (place_new r b q x back k)) (t j) (vars_back r b (t j) (returns j l)))
+      ap (substituted (closed_over (map (new r b) q))) (to j l)
+      ∙ follow r b (closed_over (map (new r b) q)) (closed_over q) (λ x k. ap₂ (λ c p. cond c (Var p) Any) (has_new r b q x back k) (place_new r b q x back k)) (t j) (vars_back r b (t j) (returns j l)))

@@ -14,7 +14,7 @@ use Rattle.step_chain.proofs.OneResolvent.{one_resolvent}
 use Rattle.step_chain.proofs.PairLaws.{back, beside, front, unified_at}
 use Rattle.step_chain.proofs.Resolved.{slots_long}
 use Rattle.step_chain.proofs.Taking.{chosen_at, chosen_prefix}
-use Rattle.step_chain.specs.Chains.{alone, bit, Continues, ends, goes, IsChain, IsChainAnswer, link_key, Way, way_key}
+use Rattle.step_chain.specs.Chains.{alone, bit, IsContinuation, ends, goes, IsChain, IsChainAnswer, link_key, Way, way_key}
 use Rattle.step_chain.specs.Pairs.{AreChosen, IsTaken, pair_of, slots_of_both}
 use Rattle.step_chain.specs.Resolvents.{AreUnified, IsResolvent, Link, signed}
 use Rattle.step_chain.specs.Resolving.{IsPair, IsResolventOf, link_of}
@@ -25,13 +25,13 @@ use Rattle.step_chain.specs.declared.resolvent.Resolvent.{Resolvent}
 
 -- ---- the last list
 
-no_rest : (target : Clause) (number : ℕ) (middle : Clause) (links : List Link) (mids : List Clause) (steps : List Justification) → Continues target number middle [] links mids steps → ⊥
+no_rest : (target : Clause) (number : ℕ) (middle : Clause) (links : List Link) (mids : List Clause) (steps : List Justification) → IsContinuation target number middle [] links mids steps → ⊥
 no_rest target number middle links mids steps h = elim h [ ]
 
 pub nothing_left : (target : Clause) (number : ℕ) (middle : Clause) → IsLeastOf (HasContinuation target number middle []) None
 nothing_left target number middle key chain h = no_rest target number middle h.0 chain.mids chain.steps h.2
 
-last_is : (target : Clause) (number : ℕ) (middle : Clause) (last : ClauseList) (links : List Link) (mids : List Clause) (steps : List Justification) → Continues target number middle (last ∷ []) links mids steps
+last_is : (target : Clause) (number : ℕ) (middle : Clause) (last : ClauseList) (links : List Link) (mids : List Clause) (steps : List Justification) → IsContinuation target number middle (last ∷ []) links mids steps
     → (step : Justification) × IsJustification target (alone middle ∷ last ∷ []) (Some step)
 last_is target number middle last _ _ _ (ends _ _ _ step is) = (step, is)
 last_is target number middle last _ _ _ (goes _ _ _ _ link links row resolvent mids step steps at is more) = elim more [ ]
@@ -44,7 +44,7 @@ pub last_some : (target middle : Clause) (last : ClauseList) (step : Justificati
     → (number : ℕ) → IsLeastOf (HasContinuation target number middle (last ∷ [])) (Some chain)
 last_some target middle last step chain e is number = (
   [],
-  ([], refl, subst (λ z. Continues target number middle (last ∷ []) [] z.mids z.steps) (sym e) (ends number middle last step is)),
+  ([], refl, subst (λ z. IsContinuation target number middle (last ∷ []) [] z.mids z.steps) (sym e) (ends number middle last step is)),
   nothing_before,
 )
   where
@@ -70,7 +70,7 @@ module _ (target : Clause) (number : ℕ) (middle : Clause) (next second : Claus
   not_not true = refl
   not_not false = refl
 
-  goes_there : (links : List Link) (mids : List Clause) (steps : List Justification) → Continues target number middle (next ∷ second ∷ later) links mids steps → Rows (joined (map link_key links)) (chain_with mids steps)
+  goes_there : (links : List Link) (mids : List Clause) (steps : List Justification) → IsContinuation target number middle (next ∷ second ∷ later) links mids steps → Rows (joined (map link_key links)) (chain_with mids steps)
   goes_there _ _ _ (goes _ _ _ _ link links row resolvent mids step steps at is more) = (
     row,
     at,
@@ -117,7 +117,7 @@ module _ (target : Clause) (number : ℕ) (middle : Clause) (next second : Claus
         link ∷ it.continues.0,
         ap (λ z. n ∷ z) (ap₂ (λ x y. x ∷ y) (e ∙ ap bit (not_not b))
             (h.whole ∙ ap (λ z. map bit z ++ h.rest) it.whole ∙ sym (bits_join it.taken it.others h.rest) ∙ ap (λ z. (map bit it.taken ++ map bit it.others) ++ z) it.continues.1)),
-        subst (λ z. Continues target number middle (next ∷ second ∷ later) (link ∷ it.continues.0) z.mids z.steps) (sym it.is)
+        subst (λ z. IsContinuation target number middle (next ∷ second ∷ later) (link ∷ it.continues.0) z.mids z.steps) (sym it.is)
             (goes number middle next (second ∷ later) link it.continues.0 row it.resolvent it.mids it.step it.steps at it.resolved it.continues.2),
       )
 
@@ -232,7 +232,7 @@ module _ (target : Clause) (first : ClauseList) (rest : List ClauseList) where
       let e = first_is first h.first rest h.rest h.whole in (
         h.row,
         subst (λ z. slice_get z.rows way.start ≡ Some h.row) e.0 h.at,
-        (way.links, refl, subst (λ z. Continues target way.start h.row.clause z way.links chain.mids chain.steps) e.1 h.continues),
+        (way.links, refl, subst (λ z. IsContinuation target way.start h.row.clause z way.links chain.mids chain.steps) e.1 h.continues),
       )
 
   chain_of_start : (key : List ℕ) (chain : Chain) → Starts key chain → (way : Way) × (way_key way ≡ key) × IsChain target (first ∷ rest) way chain

@@ -19,14 +19,14 @@ alone clause = record { rows = record { clause = clause; quants = []; picks = []
 -- From a middle clause, which has that number in its list, over the lists of the parents to come: a resolvent with a clause
 -- of each of them, by the links, and at the last one the justification of the target. These are the middle clauses to
 -- come and the justifications.
-pub data Continues (target : Clause) : ℕ → Clause → List ClauseList → List Link → List Clause → List Justification → Type 0 where
+pub data IsContinuation (target : Clause) : ℕ → Clause → List ClauseList → List Link → List Clause → List Justification → Type 0 where
   ends : (number : ℕ) (middle : Clause) (last : ClauseList) (step : Justification)
-      → IsJustification target (alone middle ∷ last ∷ []) (Some step) → Continues target number middle (last ∷ []) [] [] (step ∷ [])
+      → IsJustification target (alone middle ∷ last ∷ []) (Some step) → IsContinuation target number middle (last ∷ []) [] [] (step ∷ [])
   goes : (number : ℕ) (middle : Clause) (next : ClauseList) (rest : List ClauseList) (link : Link) (links : List Link) (row : ClauseRow)
       (resolvent : Clause) (mids : List Clause) (step : Justification) (steps : List Justification)
       → slice_get next.rows link.number ≡ Some row → IsResolvent number middle row.clause link resolvent step
-      → Continues target 0 resolvent rest links mids steps
-      → Continues target number middle (next ∷ rest) (link ∷ links) (resolvent ∷ mids) (step ∷ steps)
+      → IsContinuation target 0 resolvent rest links mids steps
+      → IsContinuation target number middle (next ∷ rest) (link ∷ links) (resolvent ∷ mids) (step ∷ steps)
 
 -- What is chosen for a chain: the number of the first parent's clause, and the links.
 pub record Way : Type 0 where
@@ -40,7 +40,7 @@ pub record IsChain (target : Clause) (parents : List ClauseList) (way : Way) (ch
   pub whole : parents ≡ first ∷ rest
   pub row : ClauseRow
   pub at : slice_get first.rows way.start ≡ Some row
-  pub continues : Continues target way.start row.clause rest way.links chain.mids chain.steps
+  pub continues : IsContinuation target way.start row.clause rest way.links chain.mids chain.steps
 
 -- ---- the least chain
 

@@ -6,11 +6,10 @@ use Rattle.dk_syntax.specs.declared.Literal.{Literal}
 use Rattle.dk_syntax.specs.declared.SymKey.{SymKey}
 use Rattle.dk_syntax.specs.declared.Term.{Term}
 use Rattle.dk_syntax.specs.declared.Term.TheVariants.{Var}
-use Rattle.step_clause.specs.Candidates.{instance}
 use Rattle.step_clause.specs.Search.{SamePivot}
 use Rattle.unifier.specs.Outcomes.{Extended, Outcome, Refuted, Sound}
 use Rattle.unifier.specs.declared.Bindings.{Bindings}
-use Rattle.dk_syntax.specs.Terms.{EachBelow, substituted}
+use Rattle.dk_syntax.specs.Terms.{EachBelow, instance, substituted}
 use Rattle.step_chain.specs.declared.choosing.Chosen.{Chosen}
 use Rattle.step_chain.specs.declared.pair.Pair.{Pair}
 use Rattle.step_chain.specs.declared.pair.Slot.{Slot}

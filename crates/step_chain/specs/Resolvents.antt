@@ -8,11 +8,10 @@ use Rattle.dk_syntax.specs.declared.Term.{Term}
 use Rattle.dk_syntax.specs.declared.Term.TheVariants.{Any, Var}
 use Rattle.normal_form.specs.ClauseLists.{clause_over, has_number, quants_of}
 use Rattle.normal_form.specs.Renaming.{place_of}
-use Rattle.step_clause.specs.Candidates.{instance}
 use Rattle.step_clause.specs.Justifications.{AreMostGeneral}
 use Rattle.step_clause.specs.declared.justification.Justification.{Justification}
 use Rattle.step_clause.specs.declared.justification.Justification.TheVariants.{Resolve}
-use Rattle.dk_syntax.specs.Terms.{substituted}
+use Rattle.dk_syntax.specs.Terms.{instance, substituted}
 
 -- ---- which literals are taken
 
@@ -57,12 +56,12 @@ abbrev pub left_over : Clause → Clause → List Bool → List Bool → (ℕ �
 left_over first second taken others t u = map (instance t) (kept first.lits taken) ++ map (instance u) (kept second.lits others)
 
 -- A variable's place among those of the resolvent, or Any where it doesn't occur there.
-abbrev pub settled : List ℕ → ℕ → Term
-settled variables n = cond (has_number variables n) (Var (place_of variables n)) Any
+abbrev pub closed_over : List ℕ → ℕ → Term
+closed_over variables n = cond (has_number variables n) (Var (place_of variables n)) Any
 
 -- The terms of a clause's variables.
-abbrev pub settled_terms : List ℕ → ℕ → (ℕ → Term) → List Term
-settled_terms variables vars t = map (λ j. substituted (settled variables) (t j)) (range_with_len 0 vars)
+abbrev pub closed_terms_over : List ℕ → ℕ → (ℕ → Term) → List Term
+closed_terms_over variables vars t = map (λ j. substituted (closed_over variables) (t j)) (range_with_len 0 vars)
 
 -- A literal that is taken has the resolvent's length for a pick, and any other its place there.
 abbrev pub ArePicks : List Literal → (ℕ → Term) → List Literal → List Bool → List ℕ → Type 0
@@ -99,4 +98,4 @@ pub record IsResolvent (number : ℕ) (first second : Clause) (link : Link) (res
   pub other_picks : List ℕ
   pub picked : ArePicks lits t first.lits link.taken picks
   pub other_picked : ArePicks lits u second.lits link.others other_picks
-  pub justified : step ≡ resolution_by link.sign number link.number picks other_picks (settled_terms (quants_of lits) first.vars t) (settled_terms (quants_of lits) second.vars u)
+  pub justified : step ≡ resolution_by link.sign number link.number picks other_picks (closed_terms_over (quants_of lits) first.vars t) (closed_terms_over (quants_of lits) second.vars u)

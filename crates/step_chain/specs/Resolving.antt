@@ -5,20 +5,20 @@ use Rattle.dk_syntax.specs.declared.Clause.{Clause}
 use Rattle.dk_syntax.specs.declared.Literal.{Literal}
 use Rattle.dk_syntax.specs.declared.Term.{Term}
 use Rattle.normal_form.specs.ClauseLists.{clause_over, quants_of}
-use Rattle.step_clause.specs.Candidates.{instance}
+use Rattle.dk_syntax.specs.Terms.{instance}
 use Rattle.step_chain.specs.declared.pair.Pair.{Pair}
 use Rattle.step_chain.specs.declared.pair.Slot.{Slot}
 use Rattle.step_chain.specs.declared.resolvent.Resolvent.{Resolvent}
 use Rattle.step_chain.specs.Pairs.{slots_of_both}
-use Rattle.step_chain.specs.Resolvents.{AreUnified, IsOnce, IsResolvent, kept, Link, resolution_by, settled_terms}
+use Rattle.step_chain.specs.Resolvents.{AreUnified, IsOnce, IsResolvent, kept, Link, resolution_by, closed_terms_over}
 
 -- The literal of a slot with its variables replaced.
 abbrev pub slot_instance : (ℕ → Term) → Slot → Literal
 slot_instance m slot = instance m slot.literal
 
 -- The list has become the other by adding each of these literals that wasn't there.
-abbrev pub AddsOnce : List Literal → List Literal → List Literal → Type 0
-AddsOnce old literals all = (more : List Literal) × IsOnce old literals more × (all ≡ old ++ more)
+abbrev pub AreAddedOnce : List Literal → List Literal → List Literal → Type 0
+AreAddedOnce old literals all = (more : List Literal) × IsOnce old literals more × (all ≡ old ++ more)
 
 -- A literal that is taken has the list's length for a pick, and any other its place there.
 abbrev pub AreInstancePicks : List Literal → List Literal → List Bool → List ℕ → Type 0
@@ -56,4 +56,4 @@ pub record IsMade (first second : Clause) (pair : Pair) (m : ℕ → Term) (ones
   pub other_picks : List ℕ
   pub picked : AreInstancePicks lits ones taken picks
   pub other_picked : AreInstancePicks lits twos others other_picks
-  pub justified : it.step ≡ resolution_by pair.sign pair.number pair.other picks other_picks (settled_terms (quants_of lits) first.vars (λ j. m (0 + j))) (settled_terms (quants_of lits) second.vars (λ j. m (first.vars + j)))
+  pub justified : it.step ≡ resolution_by pair.sign pair.number pair.other picks other_picks (closed_terms_over (quants_of lits) first.vars (λ j. m (0 + j))) (closed_terms_over (quants_of lits) second.vars (λ j. m (first.vars + j)))

@@ -5,7 +5,7 @@ use Rattle.dk_syntax.specs.declared.Clause.{Clause}
 use Rattle.normal_form.specs.declared.ClauseList.{ClauseList}
 use Rattle.step_clause.specs.Candidates.{IsListBefore}
 use Rattle.step_clause.specs.declared.justification.Justification.{Justification}
-use Rattle.step_chain.specs.Chains.{bit, Continues, link_key}
+use Rattle.step_chain.specs.Chains.{bit, IsContinuation, link_key}
 use Rattle.step_chain.specs.Resolvents.{IsResolvent, Link}
 use Rattle.step_chain.specs.declared.chain.Chain.{Chain}
 use Rattle.step_chain.specs.declared.pair.Pair.{Pair}
@@ -31,7 +31,7 @@ ByNumber Holds items (n ∷ key) chain = (x : _) × (slice_get items n ≡ Some 
 -- From a middle clause over the lists to come, by the key of the links.
 abbrev pub HasContinuation : Clause → ℕ → Clause → List ClauseList → List ℕ → Chain → Type 0
 HasContinuation target number middle rest key chain =
-    (links : List Link) × (key ≡ joined (map link_key links)) × Continues target number middle rest links chain.mids chain.steps
+    (links : List Link) × (key ≡ joined (map link_key links)) × IsContinuation target number middle rest links chain.mids chain.steps
 
 abbrev pub link_with : ℕ → Bool → List Bool → List Bool → Link
 link_with other sign taken others = record { number = other; sign = sign; taken = taken; others = others }

@@ -16,9 +16,9 @@ abbrev pub HasOne : Bool → SymKey → ClauseList → Type 0
 HasOne sign pred list = AnyOf (λ row. AnyOf (IsOf sign pred) row.clause.lits) list.rows
 
 -- A literal of the target has the literal's sign and symbol, or one of the lists to come has its symbol with the other sign.
-abbrev pub MayGo : Clause → List ClauseList → Literal → Type 0
-MayGo target rest literal = AnyOf (IsOf literal.positive literal.pred) target.lits ⊎ AnyOf (HasOne (not literal.positive) literal.pred) rest
+abbrev pub HasPartner : Clause → List ClauseList → Literal → Type 0
+HasPartner target rest literal = AnyOf (IsOf literal.positive literal.pred) target.lits ⊎ AnyOf (HasOne (not literal.positive) literal.pred) rest
 
 -- The target doesn't follow from the last list alone: so the last middle clause has a part in its justification.
-abbrev pub NeedsMiddle : Clause → List ClauseList → Type 0
-NeedsMiddle target rest = (front : List ClauseList) (last : ClauseList) → rest ≡ front ++ last ∷ [] → NoneWorks target (last ∷ [])
+abbrev pub IsNotFromLast : Clause → List ClauseList → Type 0
+IsNotFromLast target rest = (front : List ClauseList) (last : ClauseList) → rest ≡ front ++ last ∷ [] → NoneWorks target (last ∷ [])

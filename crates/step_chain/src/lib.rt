@@ -20,13 +20,13 @@
 
 mod chain;
 mod choosing;
+mod closing;
 mod numbering;
 mod once;
 mod pair;
 mod parents;
 mod resolvent;
 mod search;
-mod settling;
 mod symbols;
 
 pub use chain::Chain;

@@ -1,7 +1,7 @@
 //! Literals each once, and their places.
 ghost use Rattle.std.specs.Prelude.{◌≡◌, ◌∷◌, [], false, true, length, slice_get, Contains, IfOk, MatchBool, MatchOption, OnOk, Some};
 ghost use Rattle.step_chain.specs.Resolvents.{kept};
-ghost use Rattle.step_chain.specs.Resolving.{AddsOnce, AreContained, AreInstancePicks};
+ghost use Rattle.step_chain.specs.Resolving.{AreAddedOnce, AreContained, AreInstancePicks};
 
 use crate::numbering::number_of;
 use dk_syntax::{Literal, NoMemory, Seq, same_literal};
@@ -39,7 +39,7 @@ fn add_kept(
     literal: &Literal,
     taken: bool,
 ) -> Result<(), NoMemory>
-    ensures { OnOk result (AddsOnce once.old (kept (literal.now ∷ []) (taken ∷ [])) once.new) }
+    ensures { OnOk result (AreAddedOnce once.old (kept (literal.now ∷ []) (taken ∷ [])) once.new) }
 {
     if taken {
         return Ok(());
@@ -62,7 +62,7 @@ pub fn add_once(
     taken: &[bool],
 ) -> Result<(), NoMemory>
     requires { length taken.now ≡ length literals.now }
-    ensures { OnOk result (AddsOnce once.old (kept literals.now taken.now) once.new) }
+    ensures { OnOk result (AreAddedOnce once.old (kept literals.now taken.now) once.new) }
 {
     for k in 0..literals.len() {
         add_kept(alloc, once, &literals[k], taken[k])?;

@@ -3,7 +3,7 @@ ghost use Rattle.std.specs.Prelude.{◌≡◌, ◌≤◌, length, true, IfOk};
 ghost use Rattle.step_clause.specs.Justifications.{AreNumbered, IsNumbered, IsNumberedList};
 ghost use Rattle.step_chain.specs.Chains.{IsChainAnswer, IsOnlyAnswer};
 ghost use Rattle.step_chain.specs.Search.{ByNumber, HasContinuation, IsLeastOf};
-ghost use Rattle.step_chain.specs.Symbols.{NeedsMiddle};
+ghost use Rattle.step_chain.specs.Symbols.{IsNotFromLast};
 
 use crate::chain::Chain;
 use crate::numbering::number_of;
@@ -23,7 +23,7 @@ fn search_starts(
     requires target { IsNumbered target.now }
     requires first { IsNumberedList first.now }
     requires rest { AreNumbered rest.now }
-    requires needs { needs ≡ true → NeedsMiddle target.now rest.now }
+    requires needs { needs ≡ true → IsNotFromLast target.now rest.now }
     ensures { IfOk result (λ answer. IsLeastOf (ByNumber
         (λ start row. HasContinuation target.now start row.clause rest.now) first.now.rows) answer) }
 {

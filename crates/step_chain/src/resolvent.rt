@@ -5,18 +5,18 @@ ghost use Rattle.normal_form.specs.ClauseLists.{clause_over, quants_of};
 ghost use Rattle.step_clause.specs.Justifications.{IsNumbered};
 ghost use Rattle.unifier.specs.Substitution.{value};
 ghost use Rattle.step_chain.specs.Pairs.{HasChosen};
-ghost use Rattle.step_chain.specs.Resolvents.{IsOnce, kept, resolution_by, settled_terms};
+ghost use Rattle.step_chain.specs.Resolvents.{closed_terms_over, IsOnce, kept, resolution_by};
 ghost use Rattle.step_chain.specs.Resolving.{AreContained, AreInstancePicks, IsMade, IsPair, IsResolventOf, slot_instance};
 
 use crate::choosing::Chosen;
+use crate::closing::{close_literals, closed_values};
 use crate::numbering::{number_of, variables_in};
 use crate::once::{add_once, any_taken, picks_of};
 use crate::pair::{Pair, Slot};
-use crate::settling::{settle_literals, settled_values};
 use dk_syntax::{Clause, Literal, NoMemory, Seq, Term};
 use std::alloc::Global;
 use step_clause::Justification;
-use unifier::{Subst, apply, resolved};
+use unifier::{Subst, apply, settled};
 
 /// A clause and its justification.
 #[derive(Drop)]
@@ -65,7 +65,7 @@ fn clause_of(alloc: Global, lits: &[Literal], variables: &[u32]) -> Result<Claus
     ensures { IfOk result (λ clause. clause ≡ clause_over (quants_of lits.now) lits.now) }
 {
     let vars = number_of(variables.len())?;
-    let lits = settle_literals(alloc, lits, variables)?;
+    let lits = close_literals(alloc, lits, variables)?;
     Ok(Clause { vars, lits })
 }
 
@@ -139,11 +139,11 @@ fn part_of(
     requires there { AreContained lits.now (kept literals.now taken.now) }
     ensures picks { IfOk result (λ part. AreInstancePicks lits.now literals.now taken.now
         part.picks) }
-    ensures terms { IfOk result (λ part. part.terms ≡ settled_terms variables.now count
+    ensures terms { IfOk result (λ part. part.terms ≡ closed_terms_over variables.now count
         (λ j. value solution.now.terms (from + j))) }
 {
     let picks = picks_of(alloc, lits, literals, taken)?;
-    let terms = settled_values(alloc, solution, variables, from, count)?;
+    let terms = closed_values(alloc, solution, variables, from, count)?;
     Ok(Part { picks, terms })
 }
 
@@ -215,7 +215,7 @@ pub fn resolve_pair(
     if !any_taken(others) {
         return Ok(None);
     }
-    let solution = resolved(alloc, &chosen.bindings)?;
+    let solution = settled(alloc, &chosen.bindings)?;
     let (slots, other_slots) = pair.slots.as_slice().split_at(size);
     let ones = instances(alloc, &solution, slots)?;
     let twos = instances(alloc, &solution, other_slots)?;

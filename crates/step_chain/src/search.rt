@@ -6,7 +6,7 @@ ghost use Rattle.step_chain.specs.Chains.{alone};
 ghost use Rattle.step_chain.specs.Pairs.{HasChosen};
 ghost use Rattle.step_chain.specs.Resolving.{IsPair};
 ghost use Rattle.step_chain.specs.Search.{ByNumber, chain_with, HasBranchOf, HasChoice, HasContinuation, HasLink, HasSignedLink, IsLeastOf};
-ghost use Rattle.step_chain.specs.Symbols.{NeedsMiddle};
+ghost use Rattle.step_chain.specs.Symbols.{IsNotFromLast};
 
 use crate::chain::Chain;
 use crate::choosing::Chosen;
@@ -77,7 +77,7 @@ fn list_single(alloc: Global, list: &ClauseList) -> Result<Seq<ClauseList>, NoMe
 pub fn needs_middle(alloc: Global, target: &Clause, rest: &[ClauseList]) -> Result<bool, NoMemory>
     requires target { IsNumbered target.now }
     requires rest { AreNumbered rest.now }
-    ensures { IfOk result (λ needs. needs ≡ true → NeedsMiddle target.now rest.now) }
+    ensures { IfOk result (λ needs. needs ≡ true → IsNotFromLast target.now rest.now) }
 {
     match rest.split_last() {
         None => Ok(false),
@@ -154,7 +154,7 @@ fn branch(
     requires pair { IsPair first.now second.now pair.now }
     requires chosen { HasChosen pair.now.slots chosen.now }
     requires all { length chosen.now.taken ≡ length pair.now.slots }
-    requires needs { needs ≡ true → NeedsMiddle target.now later.now }
+    requires needs { needs ≡ true → IsNotFromLast target.now later.now }
     ensures { IfOk result (λ answer. IsLeastOf
         (HasBranchOf target.now later.now first.now second.now pair.now chosen.now.taken) answer) }
 {
@@ -194,7 +194,7 @@ fn choose(
     requires pair { IsPair first.now second.now pair.now }
     requires chosen { HasChosen pair.now.slots chosen.now }
     requires left { length chosen.now.taken + left ≡ length pair.now.slots }
-    requires needs { needs ≡ true → NeedsMiddle target.now later.now }
+    requires needs { needs ≡ true → IsNotFromLast target.now later.now }
     ensures { IfOk result (λ answer. IsLeastOf
         (HasChoice (HasBranchOf target.now later.now first.now second.now pair.now)
         (length pair.now.slots) chosen.now.taken) answer) }
@@ -257,7 +257,7 @@ fn search_sign(
     requires first { IsNumbered first.now }
     requires second { IsNumbered second.now }
     requires later { AreNumbered later.now }
-    requires needs { needs ≡ true → NeedsMiddle target.now later.now }
+    requires needs { needs ≡ true → IsNotFromLast target.now later.now }
     ensures { IfOk result (λ answer. IsLeastOf
         (HasSignedLink target.now later.now number first.now other second.now sign) answer) }
 {
@@ -294,7 +294,7 @@ fn search_clause(
     requires first { IsNumbered first.now }
     requires second { IsNumbered second.now }
     requires later { AreNumbered later.now }
-    requires needs { needs ≡ true → NeedsMiddle target.now later.now }
+    requires needs { needs ≡ true → IsNotFromLast target.now later.now }
     ensures { IfOk result (λ answer. IsLeastOf
         (HasLink target.now later.now number first.now other second.now) answer) }
 {
@@ -327,7 +327,7 @@ fn search_rows(
     requires first { IsNumbered first.now }
     requires next { IsNumberedList next.now }
     requires later { AreNumbered later.now }
-    requires needs { needs ≡ true → NeedsMiddle target.now later.now }
+    requires needs { needs ≡ true → IsNotFromLast target.now later.now }
     ensures { IfOk result (λ answer. IsLeastOf (ByNumber
         (λ other row. HasLink target.now later.now number first.now other row.clause) next.now.rows)
         answer) }
@@ -365,7 +365,7 @@ pub fn search(
     requires target { IsNumbered target.now }
     requires middle { IsNumbered middle.now }
     requires rest { AreNumbered rest.now }
-    requires needs { needs ≡ true → NeedsMiddle target.now rest.now }
+    requires needs { needs ≡ true → IsNotFromLast target.now rest.now }
     ensures { IfOk result (λ answer. IsLeastOf
         (HasContinuation target.now number middle.now rest.now) answer) }
 {

@@ -3,7 +3,7 @@ ghost use Rattle.std.specs.Bool.{OnTrue};
 ghost use Rattle.std.specs.Prelude.{◌≡◌, ◌↔◌, true, IsTrue};
 ghost use Rattle.std.specs.List.{All};
 ghost use Rattle.step_clause.specs.Symbols.{AnyOf};
-ghost use Rattle.step_chain.specs.Symbols.{HasOne, IsOf, MayGo};
+ghost use Rattle.step_chain.specs.Symbols.{HasOne, IsOf, HasPartner};
 
 use dk_syntax::{Clause, Literal, SymKey};
 use normal_form::ClauseList;
@@ -42,14 +42,14 @@ fn lists_have_literal(lists: &[ClauseList], sign: bool, pred: &SymKey) -> bool
 }
 
 fn may_go(target: &Clause, rest: &[ClauseList], literal: &Literal) -> bool
-    ensures { IsTrue result ↔ MayGo target.now rest.now literal.now }
+    ensures { IsTrue result ↔ HasPartner target.now rest.now literal.now }
 {
     has_literal(target.lits.as_slice(), literal.positive, &literal.pred)
         || lists_have_literal(rest, !literal.positive, &literal.pred)
 }
 
 fn all_may_go(target: &Clause, rest: &[ClauseList], literals: &[Literal]) -> bool
-    ensures { IsTrue result ↔ All (MayGo target.now rest.now) literals.now }
+    ensures { IsTrue result ↔ All (HasPartner target.now rest.now) literals.now }
 {
     for literal in literals {
         if !may_go(target, rest, literal) {
@@ -61,7 +61,8 @@ fn all_may_go(target: &Clause, rest: &[ClauseList], literals: &[Literal]) -> boo
 
 /// Whether a literal of the middle clause can't go, where all of them have to.
 pub fn is_hopeless(target: &Clause, middle: &Clause, rest: &[ClauseList], needs: bool) -> bool
-    ensures { OnTrue result ((needs ≡ true) × ¬ All (MayGo target.now rest.now) middle.now.lits) }
+    ensures { OnTrue result ((needs ≡ true)
+        × ¬ All (HasPartner target.now rest.now) middle.now.lits) }
 {
     needs && !all_may_go(target, rest, middle.lits.as_slice())
 }

@@ -1,7 +1,7 @@
 use Rattle.std.proofs.Common.{◌+◌, ap, ap₂, sym, subst, ◌∙◌}
 use Rattle.normal_form.specs.ClauseLists.{clause_over, quants_of}
 use Rattle.unifier.specs.Substitution.{value}
-use Rattle.step_chain.specs.Resolvents.{kept, resolution_by, settled_terms}
+use Rattle.step_chain.specs.Resolvents.{kept, resolution_by, closed_terms_over}
 use Rattle.step_chain.specs.Resolving.{AreContained, AreInstancePicks}
 use Rattle.step_chain.proofs.resolvent.resolve_instances.Goals as goal
 
@@ -24,6 +24,6 @@ returns c =
       other_picked = subst (λ z. AreInstancePicks z c.args.twos.now c.args.others.now c.in_ok-other.other.picks) c.as_slice-4.ensures c.in_ok-other.ensures.picks;
       justified = c.resolution-step.ensures
           ∙ ap₂ (λ p q. resolution_by c.args.pair.now.sign c.args.pair.now.number c.args.pair.now.other c.in_ok-part.part.picks c.in_ok-other.other.picks p q)
-          (c.in_ok-part.ensures.terms ∙ ap (λ q. settled_terms q c.args.first.now.vars (λ j. value c.args.solution.now.terms (0 + j))) (c.as_slice-3.ensures ∙ variables))
-          (c.in_ok-other.ensures.terms ∙ ap (λ q. settled_terms q c.args.second.now.vars (λ j. value c.args.solution.now.terms (c.args.first.now.vars + j))) (c.as_slice-5.ensures ∙ variables));
+          (c.in_ok-part.ensures.terms ∙ ap (λ q. closed_terms_over q c.args.first.now.vars (λ j. value c.args.solution.now.terms (0 + j))) (c.as_slice-3.ensures ∙ variables))
+          (c.in_ok-other.ensures.terms ∙ ap (λ q. closed_terms_over q c.args.second.now.vars (λ j. value c.args.solution.now.terms (c.args.first.now.vars + j))) (c.as_slice-5.ensures ∙ variables));
     }

@@ -1,6 +1,7 @@
 pub mod ByNumber
 pub mod Carried
 pub mod Chains
+pub mod Fits
 pub mod Levels
 pub mod Numbers
 pub mod OneImage
@@ -10,5 +11,9 @@ pub mod PutImages
 pub mod Puts
 pub mod Results
 pub mod Runs
+pub mod Searches
+pub mod SeenImages
+pub mod SeenTerms
 pub mod SubstitutionLaws
 pub mod ValueSteps
+pub mod Unchanged

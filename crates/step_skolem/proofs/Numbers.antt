@@ -1,6 +1,9 @@
 -- Numbers in lists, and tests of numbers.
-use Rattle.std.proofs.Common.{◌≡◌, ℕ, nat_eq, Bool, true, false, not, List, [], ◌∷◌, map, refl, ap, eq-eqb, inl, inr}
+use Rattle.std.proofs.Common.{◌≡◌, ◌-◌, ℕ, suc, nat_eq, Bool, true, false, not, List, [], ◌∷◌, map, refl, ap, eq-eqb, inl, inr, arith}
+use Rattle.std.specs.Prelude.{nat_le, nat_lt}
+use Rattle.std.proofs.Math.Dec.{leb-suc-suc}
 use Rattle.std.proofs.lemmas.Bool.{eqb-true, or_cases, or_left, or_right}
+use Rattle.std.proofs.lemmas.Bool.Decides.{nat_tests}
 use Rattle.normal_form.specs.ClauseLists.{has_number}
 
 -- different numbers
@@ -25,3 +28,29 @@ not_both b h k = cc
 pub not_by : (b : Bool) → (b ≡ true → ⊥) → not b ≡ true
 not_by true h = absurd (h refl)
 not_by false h = refl
+
+-- ---- tests and differences of one more
+
+pub le_up : (m n : ℕ) → nat_le (suc m) (suc n) ≡ nat_le m n
+le_up m n = leb-suc-suc m n
+
+pub lt_up : (m n : ℕ) → nat_lt (suc m) (suc n) ≡ nat_lt m n
+lt_up m n = leb-suc-suc (suc m) n
+
+pub zero_le : (n : ℕ) → nat_le 0 n ≡ true
+zero_le n = grind (arith, nat_tests)
+
+pub zero_lt : (n : ℕ) → nat_lt 0 (suc n) ≡ true
+zero_lt n = grind (arith, nat_tests)
+
+pub not_first : (n : ℕ) → nat_lt (suc n) 1 ≡ false
+not_first n = grind (arith, nat_tests)
+
+pub less_up : (m n : ℕ) → suc m - suc n ≡ m - n
+less_up m n = omega arith
+
+pub less_zero : (n : ℕ) → n - 0 ≡ n
+less_zero n = omega arith
+
+pub one_less : (n : ℕ) → suc n - 1 ≡ n
+one_less n = omega arith

@@ -1,6 +1,7 @@
 -- Images of numbered forms, where what becomes of an existential is a function of its number.
 use Rattle.std.proofs.Common.{◌≡◌, ℕ, zero, suc, true, not, List, [], ◌∷◌, map, refl, sym, ap, ap₂, ◌∙◌, subst}
 use Rattle.std.proofs.lemmas.Bool.{and_from, and_parts}
+use Rattle.dk_syntax.specs.Terms.{instance}
 use Rattle.dk_syntax.specs.declared.Literal.{Literal}
 use Rattle.dk_syntax.specs.declared.SymKey.{SymKey}
 use Rattle.dk_syntax.specs.declared.Term.{Term}
@@ -8,7 +9,7 @@ use Rattle.normal_form.specs.ClauseLists.{has_number}
 use Rattle.normal_form.specs.Forms.{Form, free}
 use Rattle.step_skolem.specs.Images.{Kept, universal, existential, outside, binder, is_outside, are_distinct, FitsEntry}
 use Rattle.normal_form.specs.Sorting.{Numbered, yes, no, lit, and, or, all, ex, bare}
-use Rattle.step_skolem.specs.Substitutions.{applied, instance, up, with_term}
+use Rattle.step_skolem.specs.Substitutions.{applied, up, with_term}
 use Rattle.step_skolem.proofs.Numbers.{has_map, not_both, not_by}
 use Rattle.normal_form.proofs.Shuffles.{Shuffled, stay, chain, swap_and, turn_and, in_and, swap_or, turn_or, in_or, in_all, in_ex, free_shuffled}
 

@@ -1,5 +1,6 @@
 -- The walk by levels finds the image.
 use Rattle.std.proofs.Common.{◌≡◌, ◌<◌, ℕ, zero, suc, ◌+◌, List, [], ◌∷◌, ◌++◌, cond, length, map, refl, sym, ap, ap₂, ◌∙◌, subst, arith, append_assoc, append-nil, eq-eqb}
+use Rattle.dk_syntax.specs.Terms.{instance}
 use Rattle.dk_syntax.specs.declared.Term.{Term}
 use Rattle.normal_form.proofs.FormLaws.{form_is_tree}
 use Rattle.normal_form.specs.Forms.{all, alls, and, ex, exs, Form, form_of, lit, nf_of, or}
@@ -9,7 +10,7 @@ use Rattle.step_skolem.proofs.OneImage.{differs, first_same, From, from_at, imag
 use Rattle.step_skolem.specs.Images.{after_first, binder, entry, existential, i_all, i_and, i_keep, i_lit, i_no, i_or, i_put, i_yes, Image, IsImage, starts_at, universal, with_left}
 use Rattle.step_skolem.specs.Images as image
 use Rattle.step_skolem.specs.Levels.{denoted, first_replacement, index, kept_of, level_in, ran}
-use Rattle.step_skolem.specs.Substitutions.{applied, instance, up, with_term}
+use Rattle.step_skolem.specs.Substitutions.{applied, up, with_term}
 use Rattle.step_skolem.specs.declared.map.SkEntry.{SkEntry}
 use Rattle.step_skolem.specs.declared.walk.Quantifier.{Quantifier}
 use Rattle.step_skolem.specs.declared.walk.Quantifier.TheVariants.{Existential, Universal}

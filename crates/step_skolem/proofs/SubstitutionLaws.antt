@@ -4,12 +4,12 @@ use Rattle.std.proofs.lemmas.Bool.{eqb-true, or_cases, or_left, or_right}
 use Rattle.dk_syntax.proofs.ListLaws.{ForEach}
 use Rattle.dk_syntax.proofs.SubstitutionLaws.{after, agree, comes, has_variable-Any, has_variable-App, has_variable-Var, same, substituted-App, substituted-Var}
 use Rattle.dk_syntax.proofs.TermLaws.{App-injective, term_induction, Var-injective}
-use Rattle.dk_syntax.specs.Terms.{any_true, has_variable, substituted}
+use Rattle.dk_syntax.specs.Terms.{any_true, has_variable, instance, substituted}
 use Rattle.dk_syntax.specs.declared.Literal.{Literal}
 use Rattle.dk_syntax.specs.declared.SymKey.{SymKey}
 use Rattle.dk_syntax.specs.declared.Term.{Term}
 use Rattle.dk_syntax.specs.declared.Term.TheVariants.{App, Var}
-use Rattle.step_skolem.specs.Substitutions.{applied, instance, shifted, up, with_term}
+use Rattle.step_skolem.specs.Substitutions.{applied, shifted, up, with_term}
 
 -- functions that agree everywhere are equal
 pub ext : {B : Type 0} {f g : ℕ → B} → ((n : ℕ) → f n ≡ g n) → f ≡ g

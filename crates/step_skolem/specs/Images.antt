@@ -1,5 +1,6 @@
 -- Skolem images: what a form leads to under a map that names existentials and the terms that stand for them.
 use Rattle.std.specs.Prelude.{◌≡◌, ℕ, zero, suc, ◌+◌, nat_eq, Bool, true, false, not, ◌&&◌, List, [], ◌∷◌, ◌++◌, map, cond}
+use Rattle.dk_syntax.specs.Terms.{has_variable, instance}
 use Rattle.dk_syntax.specs.declared.Literal.{Literal}
 use Rattle.dk_syntax.specs.declared.SymKey.{SymKey}
 use Rattle.dk_syntax.specs.declared.Term.{Term}
@@ -7,9 +8,8 @@ use Rattle.dk_syntax.specs.declared.Term.TheVariants.{Any, Var}
 use Rattle.normal_form.specs.ClauseLists.{has_number}
 use Rattle.normal_form.specs.Forms.{all, alls, and, ex, exs, Form, form_of, free, lit, nf_of, no, or, yes}
 use Rattle.normal_form.specs.declared.form.Nf.{Nf}
-use Rattle.step_skolem.specs.Substitutions.{applied, instance, up, with_term}
+use Rattle.step_skolem.specs.Substitutions.{applied, up, with_term}
 use Rattle.step_skolem.specs.declared.map.SkEntry.{SkEntry}
-use Rattle.dk_syntax.specs.Terms.{has_variable}
 
 -- ---- the relation
 

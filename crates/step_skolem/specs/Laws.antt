@@ -1,12 +1,13 @@
 -- What holds of the definitions.
-use Rattle.std.specs.Prelude.{◌≡◌, List, []}
+use Rattle.std.specs.Prelude.{◌≡◌, false, List, []}
+use Rattle.normal_form.specs.Existentials.{existential_in}
+use Rattle.normal_form.specs.FormFacts.{HasNoVacuous}
 use Rattle.normal_form.specs.Forms.{form_of}
 use Rattle.normal_form.specs.Sorting.{SameSorted}
 use Rattle.normal_form.specs.declared.form.Nf.{Nf}
 use Rattle.step_skolem.specs.Carrying.{carried}
 use Rattle.step_skolem.specs.Chaining.{chained}
 use Rattle.step_skolem.specs.Images.{image_of, IsImage}
-use Rattle.step_skolem.specs.Tight.{Tight}
 use Rattle.step_skolem.specs.declared.map.SkEntry.{SkEntry}
 
 -- a map leads from a form to one form, which is a function of the map
@@ -15,11 +16,15 @@ ImageIsOne = (n n' : Nf) (entries : List SkEntry) → IsImage n entries n' → i
 
 -- one map at most leads from a form without a vacuous quantifier to another form
 abbrev pub MapIsOne : Type 0
-MapIsOne = (n n' : Nf) (one other : List SkEntry) → Tight (form_of n) → IsImage n one n' → IsImage n other n' → one ≡ other
+MapIsOne = (n n' : Nf) (one other : List SkEntry) → HasNoVacuous (form_of n) → IsImage n one n' → IsImage n other n' → one ≡ other
 
 -- an image of a form without a vacuous quantifier has none
-abbrev pub ImageIsTight : Type 0
-ImageIsTight = (n n' : Nf) (entries : List SkEntry) → IsImage n entries n' → Tight (form_of n) → Tight (form_of n')
+abbrev pub ImageHasNoVacuous : Type 0
+ImageHasNoVacuous = (n n' : Nf) (entries : List SkEntry) → IsImage n entries n' → HasNoVacuous (form_of n) → HasNoVacuous (form_of n')
+
+-- where no existential stands, the one map is the empty one and the image is the form
+abbrev pub UnchangedWithoutExistentials : Type 0
+UnchangedWithoutExistentials = (n n' : Nf) (entries : List SkEntry) → existential_in n ≡ false → IsImage n entries n' → (entries ≡ []) × (n' ≡ n)
 
 -- the empty map leads from a form to itself
 abbrev pub EmptyLeadsBack : Type 0

@@ -1,12 +1,13 @@
 -- Values and quantifiers by levels, which no quantifier shifts, and the walk over a form and a map that keeps them.
 use Rattle.std.specs.Prelude.{◌≡◌, ℕ, zero, suc, ◌+◌, ◌-◌, nat_eq, List, [], ◌∷◌, cond, drop, length, map, reverse}
+use Rattle.dk_syntax.specs.Terms.{instance}
 use Rattle.dk_syntax.specs.declared.Kind.TheVariants.{Function}
 use Rattle.dk_syntax.specs.declared.Term.{Term}
 use Rattle.dk_syntax.specs.declared.Term.TheVariants.{Var}
 use Rattle.normal_form.specs.Forms.{all, alls, and, ex, exs, Form, lit, no, or, yes}
 use Rattle.step_skolem.specs.Images.{after_first, existential, starts_at, universal, with_left}
 use Rattle.step_skolem.specs.Images as image
-use Rattle.step_skolem.specs.Substitutions.{applied, instance}
+use Rattle.step_skolem.specs.Substitutions.{applied}
 use Rattle.step_skolem.specs.declared.map.SkEntry.{SkEntry}
 use Rattle.step_skolem.specs.declared.walk.Quantifier.{Quantifier}
 use Rattle.step_skolem.specs.declared.walk.Quantifier.TheVariants.{Existential, Universal}

@@ -4,5 +4,5 @@ pub mod Images
 pub mod Laws
 pub mod Levels
 pub mod Rows
+pub mod Searching
 pub mod Substitutions
-pub mod Tight

@@ -1,14 +1,10 @@
 -- Substitutions in forms: under quantifiers, and with a term for the variable of one that is left out.
 use Rattle.std.specs.Prelude.{ℕ, zero, suc, List, map}
-use Rattle.dk_syntax.specs.declared.Literal.{Literal}
 use Rattle.dk_syntax.specs.declared.SymKey.{SymKey}
 use Rattle.dk_syntax.specs.declared.Term.{Term}
 use Rattle.dk_syntax.specs.declared.Term.TheVariants.{App, Var}
+pub use Rattle.dk_syntax.specs.Terms.{instance}
 use Rattle.dk_syntax.specs.Terms.{substituted}
-
--- the literal with s k for each variable k
-abbrev pub instance : (ℕ → Term) → Literal → Literal
-instance s literal = record literal { args = map (substituted s) literal.args }
 
 -- the term under one quantifier more
 abbrev pub shifted : Term → Term

@@ -1,10 +1,10 @@
 //! Two maps one after the other.
 ghost use Rattle.std.specs.Prelude.{◌≡◌, ◌+◌, ◌≤◌, ◌++◌, List, drop, length, map, IfOk, OnOk};
+ghost use Rattle.normal_form.specs.FormFacts.{HasNoVacuous};
 ghost use Rattle.normal_form.specs.Forms.{form_of};
 ghost use Rattle.normal_form.specs.declared.form.Nf.{Nf};
 ghost use Rattle.step_skolem.specs.Chaining.{JoinsBefore, chained, raised};
 ghost use Rattle.step_skolem.specs.Images.{IsImage};
-ghost use Rattle.step_skolem.specs.Tight.{Tight};
 ghost use Rattle.step_skolem.specs.declared.map.SkEntry.{SkEntry};
 
 use crate::map::{SkEntry, SkMap, copy_as, sum_of};
@@ -20,7 +20,8 @@ pub fn chain(alloc: Global, from: &Nf, first: &SkMap, next: &SkMap) -> Result<Sk
         → IfOk result (λ both. IsImage from.now both.entries last) }
     ensures one { (middle last : Nf) → IsImage from.now first.now.entries middle
         → IsImage middle next.now.entries last
-        → Tight (form_of from.now) → (other : List SkEntry) → IsImage from.now other last
+        → HasNoVacuous (form_of from.now) → (other : List SkEntry)
+        → IsImage from.now other last
         → IfOk result (λ both. both.entries ≡ other) }
 {
     let entries = joined(alloc, first.entries.as_slice(), next.entries.as_slice())?;

@@ -114,7 +114,7 @@ fn run_replaced(alloc: Global, walk: &mut Walk, entries: &[SkEntry], a: &Nf) -> 
 }
 
 /// The depth as a level. No memory holds a form with more quantifiers than there are numbers.
-fn level_of(depth: usize) -> Result<u32, NoMemory>
+pub fn level_of(depth: usize) -> Result<u32, NoMemory>
     ensures { IfOk result (λ level. level ≡ depth) }
 {
     match u32::try_from(depth) {

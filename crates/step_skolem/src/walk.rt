@@ -2,9 +2,9 @@
 #![tactic(auto, using(crate::proofs::ValueSteps::value_steps))]
 
 ghost use Rattle.std.specs.Prelude.{◌≡◌, ◌≤◌, ◌-◌, ◌+◌, length, map, reverse, slice_get, Some, IfOk, MatchOption};
-ghost use Rattle.dk_syntax.specs.Terms.{substituted};
+ghost use Rattle.dk_syntax.specs.Terms.{instance, substituted};
 ghost use Rattle.step_skolem.specs.Levels.{index, term_of, values_of};
-ghost use Rattle.step_skolem.specs.Substitutions.{applied, instance};
+ghost use Rattle.step_skolem.specs.Substitutions.{applied};
 
 use dk_syntax::{Literal, NoMemory, Seq, SymKey, Term};
 use std::alloc::Global;
@@ -90,7 +90,7 @@ fn variable_at(alloc: Global, walk: &Walk, k: u32) -> Result<Term, NoMemory>
 }
 
 /// The value of a variable, unless no quantifier of the first form binds it.
-fn value_at(values: &[Value], k: u32) -> Option<&Value>
+pub fn value_at(values: &[Value], k: u32) -> Option<&Value>
     ensures { MatchOption result (length values.now ≤ k)
         (λ value. slice_get (reverse values.now) k ≡ Some value.now) }
 {
@@ -122,7 +122,7 @@ fn replaced_term(alloc: Global, depth: usize, replacement: &Replacement) -> Resu
 }
 
 /// The variable of the quantifier at a level.
-fn from_level(depth: usize, level: u32) -> usize
+pub fn from_level(depth: usize, level: u32) -> usize
     ensures { result ≡ index depth level }
 {
     depth.saturating_sub(level as usize + 1)

@@ -15,12 +15,12 @@ use Rattle.normal_form.specs.declared.clause_list.ClauseList.{ClauseList}
 use Rattle.normal_form.specs.declared.clause_list.ClauseRow.{ClauseRow}
 use Rattle.normal_form.specs.declared.form.Nf.{Nf, the_lemmas as of_forms}
 use Rattle.normal_form.specs.declared.form.Nf.TheVariants as nf
-use Rattle.step_clause.specs.Candidates.{Before, Candidate, instance, IsClause, IsListBefore, resolution, Subsumes, subsumption, Works}
+use Rattle.step_clause.specs.Candidates.{Before, Candidate, IsClause, IsListBefore, resolution, Subsumes, subsumption, Works}
 use Rattle.step_clause.specs.Justifications.{closed, IsJustification, IsMostGeneral}
 use Rattle.step_clause.specs.declared.justification.Justification.{Justification}
 use Rattle.step_clause.specs.declared.justification.Justification.TheVariants.{Subsume}
 use Rattle.dk_syntax.proofs.SubstitutionLaws.{substituted-App, substituted-Var}
-use Rattle.dk_syntax.specs.Terms.{substituted}
+use Rattle.dk_syntax.specs.Terms.{substituted, instance}
 use Rattle.normal_form.proofs.FormLaws.{form-All, form-And, form-Ex, form-Lit}
 use Rattle.step_compose.proofs.OneComposed.{same_some, some_or_none}
 use Rattle.step_compose.specs.Composing.{Composes, HasItsArity, IsLeastComposed, symbol_by}

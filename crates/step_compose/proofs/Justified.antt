@@ -1,5 +1,5 @@
 -- Justifications of one target after the other.
-use Rattle.std.proofs.Common.{◌≡◌, ◌<◌, ℕ, zero, suc, ◌+◌, List, [], ◌∷◌, ◌++◌, get_or, slice_get, length, take, Option, Some, None, refl, sym, subst, ap, ◌∙◌, arith}
+use Rattle.std.proofs.Common.{◌≡◌, ◌<◌, ℕ, zero, suc, ◌+◌, List, [], ◌∷◌, ◌++◌, get_or, slice_get, length, take, Option, Some, None, MatchOption, refl, sym, subst, ap, ◌∙◌, arith}
 use Rattle.std.proofs.lemmas.List.{take_more}
 use Rattle.std.proofs.lemmas.Option.{slice_get_read}
 use Rattle.std.specs.List.{All}
@@ -11,6 +11,7 @@ use Rattle.step_clause.specs.declared.justification.Justification.{Justification
 use Rattle.step_compose.proofs.OneComposed.{same_some, some_or_none}
 use Rattle.step_compose.specs.Composing.{AreJustified}
 use Rattle.step_compose.specs.Searching.{HasUnjustified}
+use Rattle.step_compose.specs.declared.targets.Justified.{Justified}
 
 justified_append : (rows : List ClauseRow) (row : ClauseRow) (lists : List ClauseList) (steps : List Justification) (step : Justification)
     → AreJustified rows lists steps → IsJustification row.clause lists (Some step) → AreJustified (rows ++ row ∷ []) lists (steps ++ step ∷ [])
@@ -44,7 +45,8 @@ pub numbered_item : (xs rows : List ClauseRow) (i : ℕ) (row : ClauseRow) → x
 numbered_item xs rows i row same less is all =
     subst (λ (x : ClauseRow). IsNumbered x.clause) (sym (row_in xs rows i row same is)) (all i row (subst (λ (l : List ClauseRow). i < length l) same less))
 
-justified_at : (rows : List ClauseRow) (lists : List ClauseList) (ss : List Justification) → AreJustified rows lists ss → (k : ℕ) (row : ClauseRow) → slice_get rows k ≡ Some row
+-- the justification of the row at a place
+pub justified_at : (rows : List ClauseRow) (lists : List ClauseList) (ss : List Justification) → AreJustified rows lists ss → (k : ℕ) (row : ClauseRow) → slice_get rows k ≡ Some row
     → (s : Justification) × IsJustification row.clause lists (Some s)
 justified_at [] lists ss h k row e = cc
 justified_at (first ∷ rows) lists [] h k row e = absurd h
@@ -65,3 +67,16 @@ alone_numbered lists image e h = subst (λ (l : List ClauseList). AreNumbered l)
     one_only : IsNumberedList image → AreNumbered (image ∷ [])
     one_only h zero d less = h
     one_only h (suc k) d less = absurd (omega arith)
+
+abbrev IsJustifiedFrom : List ClauseRow → ClauseList → Option Justified → Type 0
+IsJustifiedFrom targets image found =
+    MatchOption found (HasUnjustified targets (image ∷ [])) (λ (it : Justified). (it.image ≡ image) × AreJustified targets (image ∷ []) it.steps)
+
+pub unjustified_from : (targets : List ClauseRow) (image : ClauseList) (found : Option Justified) → IsJustifiedFrom targets image found → found ≡ None → HasUnjustified targets (image ∷ [])
+unjustified_from targets image found h e = subst (IsJustifiedFrom targets image) e h
+
+pub justified_from : (targets : List ClauseRow) (image : ClauseList) (found : Option Justified) (it : Justified) → IsJustifiedFrom targets image found → found ≡ Some it
+    → (it.image ≡ image) × AreJustified targets (it.image ∷ []) it.steps
+justified_from targets image found it h e =
+    let (same, steps) = subst (IsJustifiedFrom targets image) e h in
+    (same, subst (λ x. AreJustified targets (x ∷ []) it.steps) (sym same) steps)

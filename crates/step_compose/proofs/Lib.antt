@@ -1,5 +1,7 @@
+pub mod Branches
 pub mod ComposedRow
 pub mod ImageCounts
+pub mod FreeLaws
 pub mod FullImages
 pub mod Justified
 pub mod MapLaws
@@ -7,3 +9,5 @@ pub mod NumberedLists
 pub mod OneComposed
 pub mod RelaxedFull
 pub mod RelaxedTerms
+pub mod Relaxation
+pub mod SearchLaws

@@ -1,5 +1,5 @@
 -- In the clause list of a form all variables are below their clauses' numbers of variables.
-use Rattle.std.proofs.Common.{◌≡◌, ◌<◌, ℕ, zero, suc, true, false, Bool, ◌||◌, ◌&&◌, nat_lt, nat_eq, List, [], ◌∷◌, get_or, length, inl, inr, map, refl, sym, subst, ap, ◌∙◌, arith}
+use Rattle.std.proofs.Common.{◌≡◌, ◌<◌, ℕ, zero, suc, true, false, Bool, nat_lt, List, [], ◌∷◌, inl, inr, map, refl, sym, subst, ◌∙◌, arith}
 use Rattle.std.specs.List.{All}
 use Rattle.std.specs.Prelude.{IsTrue}
 use Rattle.std.proofs.lemmas.Bool.{and_parts, eqb-true, or_cases}
@@ -7,13 +7,11 @@ use Rattle.std.proofs.lemmas.Bool.Decides.{nat_tests}
 use Rattle.dk_syntax.proofs.ListLaws.{ForEach}
 use Rattle.dk_syntax.proofs.SubstitutionLaws.{has_variable-Any, has_variable-App, has_variable-Var}
 use Rattle.dk_syntax.proofs.TermLaws.{term_induction}
-use Rattle.dk_syntax.proofs.WellFormedLaws.{closed-Any, closed-App, closed-Var}
-use Rattle.dk_syntax.specs.Lists.{all_true, any_true, Every, every_cons, every_nil}
+use Rattle.dk_syntax.proofs.WellFormedLaws.{closed-App, closed-Var}
+use Rattle.dk_syntax.specs.Lists.{all_true, any_true, Every, every_cons}
 use Rattle.dk_syntax.specs.Terms.{Below, EachBelow, has_variable}
 use Rattle.dk_syntax.specs.WellFormed.{literal_closed_under, term_closed_under}
-use Rattle.dk_syntax.specs.declared.Clause.{Clause}
 use Rattle.dk_syntax.specs.declared.Literal.{Literal}
-use Rattle.dk_syntax.specs.declared.SymKey.{SymKey}
 use Rattle.dk_syntax.specs.declared.Term.{Term}
 use Rattle.normal_form.proofs.RowLaws.{rows_are_choices}
 use Rattle.normal_form.specs.ClauseLists.{clause_rows}

@@ -47,7 +47,7 @@ one_justified (row ∷ rows) lists (s ∷ ss) (t ∷ ts) h k = ap₂ (λ a b. a 
 
 -- ---- composed images
 
-abbrev list_of : List ClauseRow → ClauseList
+abbrev pub list_of : List ClauseRow → ClauseList
 list_of rows = record { rows = rows }
 
 abbrev composed_by : List SkEntry → List ClauseRow → List Justification → Composed

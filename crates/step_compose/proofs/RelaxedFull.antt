@@ -1,8 +1,7 @@
 -- The relaxed image under all symbols is the full image, and under any symbols its clause list has the full image's sizes.
-use Rattle.std.proofs.Common.{◌≡◌, ◌<◌, ◌≤◌, ℕ, zero, suc, ◌+◌, ◌*◌, nat_lt, Bool, true, false, List, [], ◌∷◌, length, cond, refl, sym, subst, ap, ap₂, ◌∙◌, arith}
+use Rattle.std.proofs.Common.{◌≡◌, ◌<◌, ◌≤◌, ℕ, suc, ◌+◌, nat_lt, Bool, true, false, List, [], ◌∷◌, length, cond, refl, sym, subst, ap, ap₂, ◌∙◌, arith}
 use Rattle.std.proofs.lemmas.Bool.Decides.{nat_tests}
 use Rattle.dk_syntax.specs.declared.SymKey.{SymKey}
-use Rattle.dk_syntax.specs.declared.Term.TheVariants.{Var}
 use Rattle.normal_form.proofs.ListTotals.{clauses-counted, literals-counted}
 use Rattle.normal_form.specs.ClauseLists.{clause_rows, literal_count, totals}
 use Rattle.normal_form.specs.Forms.{all, and, ex, exs, Form, form_of, lit, nf_of, no, or, yes}
@@ -10,11 +9,10 @@ use Rattle.normal_form.specs.declared.form.Nf.{Nf}
 use Rattle.step_compose.proofs.ImageCounts.{both, clauses_of_full, literals_of_full, paired, totals-All, totals-And, totals-False, totals-Lit, totals-Or, totals-True}
 use Rattle.step_compose.specs.Composing.{HasShortList, IsListed, symbol_in}
 use Rattle.step_compose.specs.Counting.{full_totals}
-use Rattle.step_compose.specs.FullImages.{downward, full_from, full_image, nameless}
+use Rattle.step_compose.specs.FullImages.{full_from, full_image, nameless}
 use Rattle.step_compose.specs.Relaxing.{kept_in, relaxed, relaxed_from, terms_in}
 use Rattle.step_compose.specs.declared.relaxed.Bound.{Bound}
 use Rattle.step_compose.specs.declared.relaxed.Bound.TheVariants.{Kept, Replaced}
-use Rattle.step_skolem.specs.Substitutions.{applied, up, with_term}
 
 is_less : (e n : ℕ) → e < n → nat_lt e n ≡ true
 is_less e n h = grind (arith, nat_tests)

@@ -13,7 +13,7 @@ use Rattle.step_compose.specs.FullImages.{downward}
 use Rattle.step_compose.specs.Relaxing.{downward_from, found, kept_in, terms_in}
 use Rattle.step_compose.specs.declared.relaxed.Bound.{Bound}
 use Rattle.step_compose.specs.declared.relaxed.Bound.TheVariants.{Kept, Replaced}
-use Rattle.step_skolem.specs.Substitutions.{applied, shifted, up, with_term}
+use Rattle.step_skolem.specs.Substitutions.{applied, shifted}
 
 -- a term under c universals more
 raised : ℕ → Term → Term

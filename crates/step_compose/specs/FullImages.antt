@@ -7,7 +7,8 @@ use Rattle.dk_syntax.specs.declared.Term.TheVariants.{Var}
 use Rattle.normal_form.specs.Forms.{all, alls, and, ex, exs, Form, form_of, lit, nf_of, no, or, yes}
 use Rattle.normal_form.specs.declared.form.Nf.{Nf}
 use Rattle.step_skolem.specs.Images.{entry}
-use Rattle.step_skolem.specs.Substitutions.{applied, instance, up, with_term}
+use Rattle.dk_syntax.specs.Terms.{instance}
+use Rattle.step_skolem.specs.Substitutions.{applied, up, with_term}
 use Rattle.step_skolem.specs.declared.map.SkEntry.{SkEntry}
 
 -- the numbers below d, the greatest first: the variables of the universals around, the outermost first

@@ -1,15 +1,16 @@
 -- Images under some symbols: the first existentials are replaced by them, and the others are universals.
-use Rattle.std.specs.Prelude.{ℕ, zero, suc, ◌+◌, nat_lt, List, [], ◌∷◌, map, length, cond}
+use Rattle.std.specs.Prelude.{ℕ, zero, suc, ◌+◌, nat_lt, List, [], ◌∷◌, length, cond}
 use Rattle.dk_syntax.specs.declared.SymKey.{SymKey}
 use Rattle.dk_syntax.specs.declared.Term.{Term}
-use Rattle.dk_syntax.specs.declared.Term.TheVariants.{App, Var}
+use Rattle.dk_syntax.specs.declared.Term.TheVariants.{Var}
 use Rattle.normal_form.specs.Forms.{all, and, ex, exs, Form, form_of, lit, nf_of, no, or, yes}
 use Rattle.normal_form.specs.declared.form.Nf.{Nf}
 use Rattle.step_compose.specs.Composing.{symbol_in}
 use Rattle.step_compose.specs.FullImages.{downward}
 use Rattle.step_compose.specs.declared.relaxed.Bound.{Bound}
 use Rattle.step_compose.specs.declared.relaxed.Bound.TheVariants.{Kept, Replaced}
-use Rattle.step_skolem.specs.Substitutions.{applied, instance, up, with_term}
+use Rattle.dk_syntax.specs.Terms.{instance}
+use Rattle.step_skolem.specs.Substitutions.{applied, up, with_term}
 
 -- how many universals stand among the quantifiers around
 abbrev pub kept_in : List Bound → ℕ

@@ -1,13 +1,15 @@
 -- The search among the maps, from what is chosen already.
-use Rattle.std.specs.Prelude.{◌≡◌, ℕ, ◌<◌, List, [], ◌∷◌, ◌++◌, length, get_or, slice_get, ◌≤◌, true, Option, Some, None, MatchOption}
+use Rattle.std.specs.Prelude.{◌≡◌, ℕ, ◌<◌, List, [], ◌++◌, length, get_or, slice_get, ◌≤◌, true, false, Option, Some, None, MatchOption}
 use Rattle.std.specs.List.{All}
 use Rattle.dk_syntax.specs.declared.SymKey.{SymKey}
+use Rattle.normal_form.specs.ClauseLists.{has_number}
+use Rattle.normal_form.specs.Forms.{form_of, free}
 use Rattle.normal_form.specs.declared.clause_list.ClauseList.{ClauseList}
 use Rattle.normal_form.specs.declared.clause_list.ClauseRow.{ClauseRow}
 use Rattle.normal_form.specs.declared.form.Nf.{Nf}
 use Rattle.step_clause.specs.Candidates.{IsListBefore}
 use Rattle.step_clause.specs.Justifications.{IsJustification}
-use Rattle.step_compose.specs.Composing.{Composes}
+use Rattle.step_compose.specs.Composing.{Composes, symbol_in}
 use Rattle.step_compose.specs.FullImages.{nameless}
 use Rattle.step_compose.specs.declared.composed.Composed.{Composed}
 use Rattle.step_skolem.specs.Images.{are_distinct}
@@ -27,6 +29,15 @@ pub record Fits (aliens : List SymKey) (arguments : List (List ℕ)) (places : L
   pub within : All (λ place. place < length aliens) places
   pub once : are_distinct places ≡ true
   pub arities : HaveArities aliens arguments places
+
+-- the symbol at the place isn't chosen yet, and it has as many arguments as universals stand around the next existential
+abbrev pub CanFollow : List SymKey → List (List ℕ) → List ℕ → ℕ → Type 0
+CanFollow aliens arguments places place =
+    (has_number places place ≡ false) × ((symbol_in aliens place).arity ≡ length (get_or arguments (length places) []))
+
+-- each free variable of the form is below a number
+abbrev pub FreeBelow : ℕ → Nf → Type 0
+FreeBelow bound n = (k : ℕ) → free k (form_of n) ≡ true → k < bound
 
 -- no map with these places for the first existentials composes
 abbrev pub NoneAfter : Nf → List SymKey → List ClauseRow → List ℕ → Type 0

@@ -1,11 +1,12 @@
 //! Sizes of full images' clause lists, counted without building them.
 #![tactic(auto, using(crate::proofs::ImageCounts::count_steps))]
 
-ghost use Rattle.std.specs.Prelude.{◌≡◌, ◌*◌, ℕ, length};
+ghost use Rattle.std.specs.Prelude.{◌≡◌, ◌*◌, ◌↔◌, ℕ, length, IsTrue};
 ghost use Rattle.dk_syntax.specs.Depth.{capped};
 ghost use Rattle.dk_syntax.specs.declared.SymKey.{SymKey};
 ghost use Rattle.normal_form.specs.ClauseLists.{clause_rows, literal_count};
 ghost use Rattle.normal_form.specs.Forms.{form_of};
+ghost use Rattle.step_compose.specs.Composing.{IsListed};
 ghost use Rattle.step_compose.specs.Counting.{full_totals};
 ghost use Rattle.step_compose.specs.FullImages.{full_image};
 
@@ -27,6 +28,14 @@ pub fn full_counts(nf: &Nf) -> FullCounts
         → result.literals ≡ capped (literal_count (clause_rows (full_image symbols nf.now))) }
 {
     count(nf)
+}
+
+/// Whether the clause list of the form with each existential replaced has at most 4,096 clauses and 65,536 literals.
+pub fn is_listed(nf: &Nf) -> bool
+    ensures { IsTrue result ↔ IsListed nf.now }
+{
+    let counts = count(nf);
+    counts.clauses <= 4096 && counts.literals <= 65536
 }
 
 fn count(nf: &Nf) -> FullCounts

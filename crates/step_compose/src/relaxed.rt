@@ -2,12 +2,12 @@
 #![tactic(auto, using(crate::proofs::RelaxedTerms::relaxed_steps))]
 
 ghost use Rattle.std.specs.Prelude.{◌≡◌, ◌+◌, ◌∷◌, map, reverse, IfOk, OnOk};
-ghost use Rattle.dk_syntax.specs.Terms.{substituted};
+ghost use Rattle.dk_syntax.specs.Terms.{substituted, instance};
 ghost use Rattle.normal_form.specs.Forms.{all, exs, form_of, nf_of};
 ghost use Rattle.step_compose.specs.Composing.{symbol_in};
 ghost use Rattle.step_compose.specs.Relaxing.{downward_from, found, kept_in, relaxed, relaxed_from, terms_in};
 ghost use Rattle.step_compose.specs.declared.relaxed.Bound.TheVariants.{Kept};
-ghost use Rattle.step_skolem.specs.Substitutions.{applied, instance};
+ghost use Rattle.step_skolem.specs.Substitutions.{applied};
 
 use dk_syntax::{Boxed, Kind, Literal, Name, NoMemory, Seq, SymKey, Term};
 use normal_form::Nf;

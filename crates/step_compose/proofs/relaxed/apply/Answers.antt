@@ -1,4 +1,4 @@
-use Rattle.std.proofs.Common.{arith, rules}
+use Rattle.std.proofs.Common.{rules}
 use Rattle.step_compose.proofs.RelaxedTerms.{variables_step}
 use Rattle.step_compose.proofs.relaxed.apply.Goals as goal
 

@@ -1,5 +1,3 @@
-use Rattle.std.proofs.Common.{ap, ◌∙◌}
-use Rattle.normal_form.specs.ClauseLists.{clause_rows}
 use Rattle.step_compose.proofs.NumberedLists.{list_numbered}
 use Rattle.step_compose.proofs.RelaxedFull.{relaxed_short}
 use Rattle.step_compose.proofs.targets.image_list.Goals as goal

@@ -1,0 +1,10 @@
+pub mod Freshness
+pub mod Laws
+pub mod Limits
+pub mod Notes
+pub mod Pieces
+pub mod Representatives
+pub mod StalePlaces
+pub mod Steps
+pub mod Tables
+pub mod Verdicts

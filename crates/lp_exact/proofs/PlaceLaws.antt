@@ -2,14 +2,14 @@
 use Rattle.std.proofs.Common.{◌≡◌, ◌≢◌, ℕ, zero, suc, ◌+◌, ◌-◌, ◌<◌, inl, inr, refl, sym, ap, ap₂, ◌∙◌, arith, add-one, nat_lt, if◌then◌else◌}
 use Rattle.std.proofs.lemmas.Bool.{cases_order}
 use Rattle.std.proofs.lemmas.Bool.Decides.{nat_tests}
-use Rattle.lp_term.specs.LambdaPi.{Term, type, kind, con, pat, var, app, lam, pi, shift, rename, under_binder, for_last}
+use Rattle.lp_term.specs.LambdaPi.{Term, type, kind, con, pat, var, app, lam, pi, shift, rename, under_binder, for_last, for_place}
 use Rattle.lp_term.specs.View.{term_of}
 use Rattle.lp_term.specs.Substitution.{lifted}
 use Rattle.lp_term.specs.declared.lp.Lp.{Lp}
 use Rattle.lp_term.proofs.SubstitutionLaws.{ext, rename_rename, rename_is_substitute, substitute_var}
 use Rattle.lp_term.proofs.ViewLaws.{view_lifted}
 use Rattle.lp_exact.specs.Normalisation.{put_with, apply_with, apply_at}
-use Rattle.lp_exact.specs.Placing.{for_place, placed_variable, placed_with, cost_apply_with, cost_apply}
+use Rattle.lp_exact.specs.Placing.{placed_variable, placed_with, cost_apply_with, cost_apply}
 
 pub place_next : (u : Term) (n : ℕ) → for_place u (n + 1) ≡ under_binder (for_place u n)
 place_next u n = rw add-one refl

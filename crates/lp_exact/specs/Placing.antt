@@ -1,12 +1,7 @@
 -- Hereditary substitution as the program goes, which counts the binders passed, and what it costs.
 use Rattle.std.specs.Prelude.{ℕ, zero, suc, ◌+◌, ◌-◌, nat_lt, ◌==◌, if◌then◌else◌}
-use Rattle.lp_term.specs.LambdaPi.{Term, type, kind, con, pat, var, app, lam, pi, rename, under_binder, for_last}
+use Rattle.lp_term.specs.LambdaPi.{Term, type, kind, con, pat, var, app, lam, pi, rename}
 use Rattle.lp_exact.specs.Normalisation.{apply_at}
-
--- `u` for the variable of that number
-abbrev pub for_place : Term → ℕ → ℕ → Term
-for_place u zero = for_last u
-for_place u (suc n) = under_binder (for_place u n)
 
 -- what becomes of a variable where `u` is put for the variable of the number `place`
 abbrev pub placed_variable : Term → ℕ → ℕ → Term

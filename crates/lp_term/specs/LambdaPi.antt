@@ -52,5 +52,10 @@ abbrev pub for_last : Term → ℕ → Term
 for_last u zero = u
 for_last u (suc n) = var n
 
+-- u for the variable of that number, below as many binders, and each variable above it one lower
+abbrev pub for_place : Term → ℕ → ℕ → Term
+for_place u zero = for_last u
+for_place u (suc place) = under_binder (for_place u place)
+
 abbrev pub instantiate : Term → Term → Term
 instantiate t u = substitute (for_last u) t

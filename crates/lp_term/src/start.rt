@@ -60,8 +60,10 @@ fn put_binary(alloc: Global, all: &mut Seq<Command>, name: &[u8]) -> Result<(), 
 
 fn put_connectives(alloc: Global, all: &mut Seq<Command>) -> Result<(), NoMemory>
     ensures { OnOk result (all.new ≡ all.old
-        ++ Command.Constant (codes "imp") binary_type ∷ Command.Constant (codes "and") binary_type ∷
-        Command.Constant (codes "or") binary_type ∷ Command.Constant (codes "iff") binary_type ∷ []) }
+        ++ Command.Constant (codes "imp") binary_type
+        ∷ Command.Constant (codes "and") binary_type
+        ∷ Command.Constant (codes "or") binary_type
+        ∷ Command.Constant (codes "iff") binary_type ∷ []) }
 {
     put_binary(alloc, all, b"imp")?;
     put_binary(alloc, all, b"and")?;

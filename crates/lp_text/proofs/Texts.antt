@@ -1,8 +1,10 @@
 -- What the proofs on texts share.
-use Rattle.std.proofs.Common.{◌≡◌, ℕ, ◌+◌, List, [], ◌∷◌, ◌++◌, append_assoc, append-nil, arith}
+use Rattle.std.proofs.Common.{◌≡◌, ℕ, ◌+◌, ◌<◌, ◌^◌, List, [], ◌∷◌, ◌++◌, append_assoc, append-nil, refl, arith}
+use Rattle.std.proofs.lemmas.Bool.{lt-ltb}
 use Rattle.std.proofs.lemmas.Grind.{common_steps}
 use Rattle.lp_term.specs.declared.Lp.{the_lemmas as of_terms}
-use Rattle.lp_text.specs.Pieces.{piece_text, piece_weight, pieces_text, pieces_weight}
+use Rattle.lp_text.specs.Levels.{over}
+use Rattle.lp_text.specs.Pieces.{piece_over, piece_text, piece_weight, pieces_over, pieces_text, pieces_weight}
 use Rattle.lp_text.specs.declared.piece.Piece.{Piece}
 
 -- what is pushed comes first
@@ -14,4 +16,12 @@ pub pieces_weight-push : (pieces : List Piece) (piece : Piece) → pieces_weight
 pieces_weight-push [] piece = omega arith
 pieces_weight-push (below ∷ pieces) piece = omega (arith, pieces_weight-push pieces piece)
 
-pub ruleset text_steps = (common_steps, append_assoc, of_terms, pieces_text-push, pieces_weight-push)
+pub pieces_over-push : (pieces : List Piece) (piece : Piece) → pieces_over (pieces ++ piece ∷ []) ≡ piece_over piece + pieces_over pieces
+pieces_over-push [] piece = omega arith
+pieces_over-push (below ∷ pieces) piece = omega (arith, pieces_over-push pieces piece)
+
+-- a level that a machine word holds
+pub over_none : (level : ℕ) → level < 2 ^ 32 → over level ≡ 0
+over_none level few = rw (lt-ltb level (2 ^ 32) few) refl
+
+pub ruleset text_steps = (common_steps, append_assoc, of_terms, pieces_text-push, pieces_weight-push, pieces_over-push, over_none)

@@ -2,6 +2,7 @@
 use Rattle.std.specs.Prelude.{ℕ, ◌+◌, List, [], ◌∷◌, ◌++◌}
 use Rattle.lp_term.specs.declared.Lp.{Lp, Lp-F, fold-Lp}
 use Rattle.lp_term.specs.declared.Lp.TheOpen.{Sort, Sym, Var, Pat, App, Lam, Pi}
+use Rattle.lp_text.specs.Levels.{bodies_over}
 use Rattle.lp_text.specs.Print.{argument_text, operand_text, printed, term_text}
 use Rattle.lp_text.specs.declared.piece.Piece.{Piece}
 use Rattle.lp_text.specs.declared.piece.Piece.TheVariants.{Bytes, Bare, Operand, Argument}
@@ -38,3 +39,14 @@ piece_weight (Argument t level) = 3 + term_weight t.now
 abbrev pub pieces_weight : List Piece → ℕ
 pieces_weight [] = 0
 pieces_weight (piece ∷ above) = pieces_weight above + piece_weight piece
+
+-- how many bodies of the pieces stand below too many binders
+abbrev pub piece_over : Piece → ℕ
+piece_over (Bytes bytes) = 0
+piece_over (Bare t level) = bodies_over t.now level
+piece_over (Operand t level) = bodies_over t.now level
+piece_over (Argument t level) = bodies_over t.now level
+
+abbrev pub pieces_over : List Piece → ℕ
+pieces_over [] = 0
+pieces_over (piece ∷ above) = pieces_over above + piece_over piece

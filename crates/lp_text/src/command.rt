@@ -1,6 +1,7 @@
 //! Commands and developments.
 ghost use Rattle.std.specs.Prelude.{◌≡◌, ◌++◌, IfOk, OnOk};
-ghost use Rattle.lp_text.specs.Print.{command_text, declaration_text, text_of};
+ghost use Rattle.lp_text.specs.Levels.{bodies_over, command_over, commands_over};
+ghost use Rattle.lp_text.specs.Print.{command_text, declaration_text, term_text, text_of};
 
 use crate::bytes::put;
 use crate::piece::put_term;
@@ -10,7 +11,8 @@ use std::alloc::Global;
 
 /// `symbol NAME : TYPE`.
 fn put_declaration(alloc: Global, out: &mut Vec<u8>, name: &Ident, of: &Lp) -> Result<(), NoMemory>
-    ensures { OnOk result (out.new.items ≡ out.old.items ++ declaration_text name.now of.now) }
+    ensures text { OnOk result (out.new.items ≡ out.old.items ++ declaration_text name.now of.now) }
+    ensures over { OnOk result (bodies_over of.now 0 ≡ 0) }
 {
     put(out, b"symbol ")?;
     put(out, name.as_bytes())?;
@@ -19,7 +21,8 @@ fn put_declaration(alloc: Global, out: &mut Vec<u8>, name: &Ident, of: &Lp) -> R
 }
 
 fn put_command(alloc: Global, out: &mut Vec<u8>, command: &Command) -> Result<(), NoMemory>
-    ensures { OnOk result (out.new.items ≡ out.old.items ++ command_text command.now) }
+    ensures text { OnOk result (out.new.items ≡ out.old.items ++ command_text command.now) }
+    ensures over { OnOk result (command_over command.now ≡ 0) }
 {
     match command {
         Command::Constant(name, of) => {
@@ -47,13 +50,23 @@ fn put_command(alloc: Global, out: &mut Vec<u8>, command: &Command) -> Result<()
     }
 }
 
-/// The text of a development.
+/// The text of a development. Where it is given, fewer than 2 ^ 32 binders stand around each body.
 pub fn print(alloc: Global, d: &Dev) -> Result<Vec<u8>, NoMemory>
-    ensures { IfOk result (λ text. text.items ≡ text_of d.now) }
+    ensures text { IfOk result (λ text. text.items ≡ text_of d.now) }
+    ensures over { OnOk result (commands_over d.now.commands ≡ 0) }
 {
     let mut out = Vec::new(alloc);
     for command in d.commands.as_slice() {
         put_command(alloc, &mut out, command)?;
     }
+    Ok(out)
+}
+
+/// The text of a term in a place of that level: its part of a development's text.
+pub fn print_piece(alloc: Global, t: &Lp, level: u32) -> Result<Vec<u8>, NoMemory>
+    ensures { IfOk result (λ text. text.items ≡ term_text t.now level) }
+{
+    let mut out = Vec::new(alloc);
+    put_term(alloc, &mut out, t, level)?;
     Ok(out)
 }

@@ -11,4 +11,4 @@ mod command;
 mod piece;
 mod shape;
 
-pub use command::print;
+pub use command::{print, print_piece};

@@ -1,6 +1,7 @@
 //! Terms, printed over a stack of what is still to be printed.
 ghost use Rattle.std.specs.Prelude.{◌≡◌, ◌++◌, ◌+◌, ◌<◌, codes, OnOk};
-ghost use Rattle.lp_text.specs.Pieces.{piece_text, piece_weight, pieces_text, pieces_weight, term_weight};
+ghost use Rattle.lp_text.specs.Levels.{bodies_over, over};
+ghost use Rattle.lp_text.specs.Pieces.{piece_over, piece_text, piece_weight, pieces_over, pieces_text, pieces_weight, term_weight};
 ghost use Rattle.lp_text.specs.Print.{application_text, arrow_mark, bracketed, define_mark, printed, product_text, term_text};
 
 use crate::bytes::{put, put_binder, put_let, put_variable};
@@ -26,6 +27,8 @@ fn add<'a>(rest: &mut Vec<Piece<'a>>, piece: Piece<'a>) -> Result<(), NoMemory>
         ++ pieces_text rest.old.items) }
     ensures weight { OnOk result (pieces_weight rest.new.items
         ≡ piece_weight piece.entry + pieces_weight rest.old.items) }
+    ensures over { OnOk result (pieces_over rest.new.items
+        ≡ piece_over piece.entry + pieces_over rest.old.items) }
 {
     rest.push(piece)?;
     Ok(())
@@ -42,6 +45,8 @@ fn add_scope<'a>(
         ++ (codes "), " ++ (term_text body.now (level + 1) ++ pieces_text rest.old.items))) }
     ensures weight { OnOk result (pieces_weight rest.new.items
         ≡ term_weight domain.now + 1 + term_weight body.now + pieces_weight rest.old.items) }
+    ensures over { OnOk result (pieces_over rest.new.items ≡ bodies_over domain.now level
+        + (over (level + 1) + bodies_over body.now (level + 1)) + pieces_over rest.old.items) }
 {
     let inner = level.checked_add(1).ok_or(NoMemory)?;
     add(rest, Piece::Bare(body, inner))?;
@@ -60,6 +65,8 @@ fn add_value<'a>(
         ++ (codes " in\n" ++ (term_text body.now (level + 1) ++ pieces_text rest.old.items))) }
     ensures weight { OnOk result (pieces_weight rest.new.items
         ≡ term_weight value.now + 1 + term_weight body.now + pieces_weight rest.old.items) }
+    ensures over { OnOk result (pieces_over rest.new.items ≡ bodies_over value.now level
+        + (over (level + 1) + bodies_over body.now (level + 1)) + pieces_over rest.old.items) }
 {
     let inner = level.checked_add(1).ok_or(NoMemory)?;
     add(rest, Piece::Bare(body, inner))?;
@@ -79,6 +86,8 @@ fn put_application<'a>(
         (printed argument.now) level ++ pieces_text rest.old.items)) }
     ensures weight { OnOk result (pieces_weight rest.new.items < 8 + term_weight function.now +
         term_weight argument.now + pieces_weight rest.old.items) }
+    ensures over { OnOk result (pieces_over rest.new.items ≡ bodies_over function.now level
+        + bodies_over argument.now level + pieces_over rest.old.items) }
 {
     if let Lp::Lam(domain, body) = function {
         put_let(out, level)?;
@@ -103,6 +112,8 @@ fn put_product<'a>(
         ++ pieces_text rest.old.items)) }
     ensures weight { OnOk result (pieces_weight rest.new.items < 8 + term_weight domain.now +
         term_weight body.now + pieces_weight rest.old.items) }
+    ensures over { OnOk result (pieces_over rest.new.items ≡ bodies_over domain.now level
+        + (over (level + 1) + bodies_over body.now (level + 1)) + pieces_over rest.old.items) }
 {
     if occurs(body, 0)? {
         put_binder(out, b"\xce\xa0", level)?;
@@ -125,6 +136,8 @@ fn put_root<'a>(
         ++ (term_text t.now level ++ pieces_text rest.old.items)) }
     ensures weight { OnOk result (pieces_weight rest.new.items < term_weight t.now + pieces_weight
         rest.old.items) }
+    ensures over { OnOk result (pieces_over rest.new.items
+        ≡ bodies_over t.now level + pieces_over rest.old.items) }
 {
     match t {
         Lp::Sort => put(out, b"TYPE"),
@@ -156,6 +169,8 @@ fn put_bracketed<'a>(
         ++ (bracketed needed (term_text t.now level) ++ pieces_text rest.old.items)) }
     ensures weight { OnOk result (pieces_weight rest.new.items < 3 + term_weight t.now +
         pieces_weight rest.old.items) }
+    ensures over { OnOk result (pieces_over rest.new.items
+        ≡ bodies_over t.now level + pieces_over rest.old.items) }
 {
     if !needed {
         return add(rest, Piece::Bare(t, level));
@@ -174,6 +189,8 @@ fn put_piece<'a>(
         ++ (piece_text piece.entry ++ pieces_text rest.old.items)) }
     ensures weight { OnOk result (pieces_weight rest.new.items < piece_weight piece.entry +
         pieces_weight rest.old.items) }
+    ensures over { OnOk result (pieces_over rest.new.items
+        ≡ piece_over piece.entry + pieces_over rest.old.items) }
 {
     match piece {
         Piece::Bytes(bytes) => put(out, bytes),
@@ -185,7 +202,8 @@ fn put_piece<'a>(
 
 /// Appends the text of a term in a place of that level.
 pub(crate) fn put_term(alloc: Global, out: &mut Vec<u8>, t: &Lp, level: u32) -> Result<(), NoMemory>
-    ensures { OnOk result (out.new.items ≡ out.old.items ++ term_text t.now level) }
+    ensures text { OnOk result (out.new.items ≡ out.old.items ++ term_text t.now level) }
+    ensures over { OnOk result (bodies_over t.now level ≡ 0) }
 {
     let mut rest = Vec::new(alloc);
     add(&mut rest, Piece::Bare(t, level))?;

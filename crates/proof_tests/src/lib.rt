@@ -4,10 +4,14 @@
 #![tactic(auto)]
 
 #[cfg(test)]
+mod checking;
+#[cfg(test)]
 mod normal_types;
 #[cfg(test)]
 mod outside;
 #[cfg(test)]
 mod printing;
+#[cfg(test)]
+mod reading;
 #[cfg(test)]
 mod terms;

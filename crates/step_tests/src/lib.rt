@@ -6,10 +6,16 @@
 #[cfg(test)]
 mod chains;
 #[cfg(test)]
+mod composing;
+#[cfg(test)]
 mod forms;
+#[cfg(test)]
+mod freshness;
 #[cfg(test)]
 mod images;
 #[cfg(test)]
 mod justifications;
+#[cfg(test)]
+mod skolem_rows;
 #[cfg(test)]
 mod unifiers;

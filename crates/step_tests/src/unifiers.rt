@@ -173,7 +173,7 @@ fn one_equation(alloc: Global, a: &Term, b: &Term, count: u32) -> Result<Option<
     }
     if extend(alloc, &mut bindings, a, b, 0)? {
         let copy = bindings.copy(alloc)?;
-        return Ok(Some(resolved(alloc, &copy)?));
+        return Ok(Some(settled(alloc, &copy)?));
     }
     Ok(None)
 }
@@ -190,7 +190,7 @@ fn equations(alloc: Global, xs: &[Term], ys: &[Term], count: u32) -> Result<Opti
         return Err(Fail::new("a variable is not below the bound"));
     }
     if extend_terms(alloc, &mut bindings, xs, ys, 0)? {
-        return Ok(Some(resolved(alloc, &bindings)?));
+        return Ok(Some(settled(alloc, &bindings)?));
     }
     Ok(None)
 }

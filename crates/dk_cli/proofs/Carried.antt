@@ -1,18 +1,18 @@
 -- What follows from an answer that was delivered.
-use Rattle.std.proofs.Common.{◌≡◌, ◌≢◌, ℕ, ◌<◌, ◌≤◌, ◌⊎◌, List, Ok, Err, None, Some, IfErr, IfSome, inl, inr, refl, sym, ◌∙◌, ap, subst, arith}
+use Rattle.std.proofs.Common.{◌≡◌, ◌≢◌, ℕ, ◌<◌, ◌⊎◌, List, Ok, Err, None, Some, IfErr, IfSome, inl, inr, refl, sym, ◌∙◌, ap, subst, arith}
 use Rattle.std.specs.declared.option.Option.{Option}
 use Rattle.std.specs.declared.result.Result.{Result}
 use Rattle.dk_io.specs.Causes.{Rose}
 use Rattle.dk_io.specs.Outside.{Told}
 use Rattle.dk_cli.specs.Answer.{Answers, AnswersCommand, ComesBeforeWriting, IsMemory, IsReadFault, IsToldOutcome, LacksFile}
-use Rattle.dk_cli.specs.Commands.{Convert}
-use Rattle.dk_cli.specs.Delivery.{Change, Delivers, IsCut, IsNoted, IsRefused, IsUntouched, IsWritten}
+use Rattle.dk_cli.specs.Commands.{Command}
+use Rattle.dk_cli.specs.Delivery.{Change, Delivers, IsNoted, IsRefused, IsUntouched}
 use Rattle.dk_cli.specs.Headline.{CanCome, CarriesOutEach, DoesOutcome, IsCarriedOut, IsDone, Lacks, NotesByStatus, WritesByStatus}
-use Rattle.dk_cli.specs.Outcome.{IsOutcome}
 use Rattle.dk_cli.specs.Refusals.{line_of, status_of, HasNumber}
 use Rattle.dk_cli.specs.declared.refusal.Refusal.{Refusal}
-use Rattle.dk_cli.specs.declared.refusal.Refusal.TheVariants.{Words, ReadFault, WriteFault, Memory}
+use Rattle.dk_cli.specs.declared.refusal.Refusal.TheVariants.{Words, ReadFault, Step, WriteFault, Memory}
 use Rattle.dk_cli.specs.declared.refusal.Status.{Status}
+use Rattle.dk_cli.specs.declared.refusal.StepFault.TheVariants as step_fault
 use Rattle.dk_cli.specs.declared.refusal.Status.TheVariants as status
 use Rattle.dk_cli.proofs.OneOutcome.{one_outcome}
 
@@ -25,6 +25,8 @@ refused_status refusal result notes (inr h) = inr h.1.status
 -- no refusal has status 0, and none a status that can't come
 can_refuse : (refusal : Refusal) → CanCome (status_of refusal)
 can_refuse Words = tt
+can_refuse (Step step (step_fault.Over limit)) = tt
+can_refuse (Step step fault) = tt
 can_refuse refusal = tt
 
 pub can_come : (answer : Result (List ℕ) Refusal) (result : Status) (out notes : Change) → Delivers answer result out notes → CanCome result
@@ -36,15 +38,17 @@ can_come (Err refusal) result out notes d =
 -- a refusal but that of a write fault leaves the sink alone
 untouched_by : (refusal : Refusal) (out : Change) → refusal ≢ WriteFault → IsUntouched out → WritesByStatus (status_of refusal) out
 untouched_by WriteFault out other u = absurd (other refl)
+untouched_by (Step step (step_fault.Over limit)) out other u = u
+untouched_by (Step step fault) out other u = u
 untouched_by refusal out other u = u
 
 -- no answer is a write fault
-never_write_fault : (told : Told) (command : Option Convert) (before now : ℕ) (answer : Result (List ℕ) Refusal)
+never_write_fault : (told : Told) (command : Option Command) (before now : ℕ) (answer : Result (List ℕ) Refusal)
     → Answers told command before now answer → answer ≢ Err WriteFault
 never_write_fault told None before now answer a e = let words = sym a.0 ∙ e in cc
 never_write_fault told (Some command) before now answer a e = subst (λ r. IfErr r ComesBeforeWriting) e a.refusal
 
-pub writes_by : (told : Told) (command : Option Convert) (before now : ℕ) (answer : Result (List ℕ) Refusal) (result : Status) (out notes : Change)
+pub writes_by : (told : Told) (command : Option Command) (before now : ℕ) (answer : Result (List ℕ) Refusal) (result : Status) (out notes : Change)
     → Answers told command before now answer → Delivers answer result out notes → WritesByStatus result out
 writes_by told command before now (Ok text) result out notes a (inl w) = subst (λ s. WritesByStatus s out) (sym w.status) (text, w.bytes, w.still)
 writes_by told command before now (Ok text) result out notes a (inr w) = subst (λ s. WritesByStatus s out) (sym w.refused.status) (text, w.bytes)
@@ -57,6 +61,8 @@ writes_by told command before now (Err refusal) result out notes a d =
 -- each refusal sends one line
 noted_by : (refusal : Refusal) (notes : Change) → IsNoted notes (line_of refusal) → NotesByStatus (status_of refusal) notes
 noted_by Words notes n = (line_of Words, n)
+noted_by (Step step (step_fault.Over limit)) notes n = (line_of (Step step (step_fault.Over limit)), n)
+noted_by (Step step fault) notes n = (line_of (Step step fault), n)
 noted_by refusal notes n = (line_of refusal, n)
 
 one_line : (refusal : Refusal) (result : Status) (notes : Change) → IsRefused refusal result notes → NotesByStatus result notes
@@ -71,16 +77,18 @@ notes_by (Err refusal) result out notes d = elim d.1 [ inl r ↦ one_line refusa
 not_words : (refusal : Refusal) → ComesBeforeWriting refusal → status_of refusal ≢ status.Words
 not_words Words h e = h
 not_words WriteFault h e = h
+not_words (Step step (step_fault.Over limit)) h e = cc
+not_words (Step step fault) h e = cc
 not_words refusal h e = cc
 
-command_not_words : (told : Told) (command : Convert) (before now : ℕ) (answer : Result (List ℕ) Refusal) (result : Status) (out notes : Change)
+command_not_words : (told : Told) (command : Command) (before now : ℕ) (answer : Result (List ℕ) Refusal) (result : Status) (out notes : Change)
     → AnswersCommand told command before now answer → Delivers answer result out notes → result ≢ status.Words
 command_not_words told command before now (Ok text) result out notes a (inl w) e = let s = w.status in cc
 command_not_words told command before now (Ok text) result out notes a (inr w) e = let s = w.refused.status in cc
 command_not_words told command before now (Err refusal) result out notes a d e =
     elim (refused_status refusal result notes d.1) [ inl s ↦ not_words refusal a.refusal (sym s ∙ e) | inr s ↦ let m = sym s ∙ e in cc ]
 
-pub words_only : (told : Told) (command : Option Convert) (before now : ℕ) (answer : Result (List ℕ) Refusal) (result : Status) (out notes : Change)
+pub words_only : (told : Told) (command : Option Command) (before now : ℕ) (answer : Result (List ℕ) Refusal) (result : Status) (out notes : Change)
     → Answers told command before now answer → Delivers answer result out notes → result ≡ status.Words → command ≡ None
 words_only told None before now answer result out notes a d e = refl
 words_only told (Some command) before now answer result out notes a d e = absurd (command_not_words told command before now answer result out notes a d e)
@@ -91,12 +99,12 @@ told_words answer result out notes e d =
     let refused : Delivers (Err Words) result out notes = subst (λ x. Delivers x result out notes) e d in
     elim refused.1 [ inl r ↦ r.status | inr r ↦ absurd r.0 ]
 
-pub words_if : (told : Told) (command : Option Convert) (before now : ℕ) (answer : Result (List ℕ) Refusal) (result : Status) (out notes : Change)
+pub words_if : (told : Told) (command : Option Command) (before now : ℕ) (answer : Result (List ℕ) Refusal) (result : Status) (out notes : Change)
     → Answers told command before now answer → Delivers answer result out notes → command ≡ None → result ≡ status.Words
 words_if told None before now answer result out notes a d e = told_words answer result out notes a.0 d
 words_if told (Some command) before now answer result out notes a d e = cc
 
-pub words_count : (told : Told) (command : Option Convert) (before now : ℕ) (answer : Result (List ℕ) Refusal)
+pub words_count : (told : Told) (command : Option Command) (before now : ℕ) (answer : Result (List ℕ) Refusal)
     → Answers told command before now answer → command ≡ None → now ≡ before
 words_count told None before now answer a e = a.1
 words_count told (Some command) before now answer a e = cc
@@ -118,7 +126,7 @@ memory_status (Ok text) result out notes m d = absurd m
 memory_status (Err Memory) result out notes m d = elim d.1 [ inl r ↦ r.status | inr r ↦ r.1.status ]
 memory_status (Err refusal) result out notes m d = absurd m
 
-told_itself : (told : Told) (command : Convert) (before now : ℕ) (answer : Result (List ℕ) Refusal) (result : Status) (out notes : Change)
+told_itself : (told : Told) (command : Command) (before now : ℕ) (answer : Result (List ℕ) Refusal) (result : Status) (out notes : Change)
     → AnswersCommand told command before now answer → Delivers answer result out notes → ¬ Rose before now → result ≢ status.Memory
     → IsToldOutcome told command answer
 told_itself told command before now answer result out notes a d still memory = elim a.outcome [
@@ -126,12 +134,12 @@ told_itself told command before now answer result out notes a d still memory = e
   | inr rest ↦ elim rest [ inl m ↦ absurd (memory (memory_status answer result out notes m d)) | inr outcome ↦ outcome ]
 ]
 
-does : (told : Told) (command : Convert) (before now : ℕ) (answer : Result (List ℕ) Refusal) (result : Status) (out notes : Change)
+does : (told : Told) (command : Command) (before now : ℕ) (answer : Result (List ℕ) Refusal) (result : Status) (out notes : Change)
     → AnswersCommand told command before now answer → Delivers answer result out notes → DoesOutcome told command before now result out notes
 does told command before now answer result out notes a d still memory =
     (answer, told_itself told command before now answer result out notes a d still memory, done_by answer result out notes memory d)
 
-pub some_does : (told : Told) (command : Option Convert) (before now : ℕ) (answer : Result (List ℕ) Refusal) (result : Status) (out notes : Change)
+pub some_does : (told : Told) (command : Option Command) (before now : ℕ) (answer : Result (List ℕ) Refusal) (result : Status) (out notes : Change)
     → Answers told command before now answer → Delivers answer result out notes → IfSome command (λ found. DoesOutcome told found before now result out notes)
 some_does told None before now answer result out notes a d = tt
 some_does told (Some command) before now answer result out notes a d = does told command before now answer result out notes a d
@@ -142,15 +150,15 @@ whole (Ok text) result out notes still (inl w) = w
 whole (Ok text) result out notes still (inr w) = absurd (still w.rose)
 whole (Err refusal) result out notes still d = d
 
-carries : (told : Told) (command : Convert) (before now : ℕ) (answer : Result (List ℕ) Refusal) (result : Status) (out notes : Change)
+carries : (told : Told) (command : Command) (before now : ℕ) (answer : Result (List ℕ) Refusal) (result : Status) (out notes : Change)
     → AnswersCommand told command before now answer → Delivers answer result out notes → CarriesOutEach told command before now result out notes
 carries None command before now answer result out notes a d = tt
 carries (Some files) command before now answer result out notes a d = λ other outcome reads cut memory.
     let mine = told_itself (Some files) command before now answer result out notes a d reads memory in
-    subst (λ x. IsCarriedOut x result out notes) (one_outcome (files command.problem) (files command.trace) answer other mine outcome)
+    subst (λ x. IsCarriedOut x result out notes) (one_outcome command files answer other mine outcome)
     (whole answer result out notes cut (done_by answer result out notes memory d))
 
-pub some_carries : (told : Told) (command : Option Convert) (before now : ℕ) (answer : Result (List ℕ) Refusal) (result : Status) (out notes : Change)
+pub some_carries : (told : Told) (command : Option Command) (before now : ℕ) (answer : Result (List ℕ) Refusal) (result : Status) (out notes : Change)
     → Answers told command before now answer → Delivers answer result out notes → IfSome command (λ found. CarriesOutEach told found before now result out notes)
 some_carries told None before now answer result out notes a d = tt
 some_carries told (Some command) before now answer result out notes a d = carries told command before now answer result out notes a d
@@ -161,12 +169,12 @@ fault_status (Ok text) result out notes f d = absurd f
 fault_status (Err (ReadFault file)) result out notes f d = elim d.1 [ inl r ↦ r.status | inr r ↦ absurd r.0 ]
 fault_status (Err refusal) result out notes f d = absurd f
 
-pub read_rose : (told : Told) (command : Option Convert) (before now : ℕ) (answer : Result (List ℕ) Refusal) (result : Status) (out notes : Change)
+pub read_rose : (told : Told) (command : Option Command) (before now : ℕ) (answer : Result (List ℕ) Refusal) (result : Status) (out notes : Change)
     → Answers told command before now answer → Delivers answer result out notes → before < now → result ≡ status.ReadFault
 read_rose told None before now answer result out notes a d rose = let same = a.1 in absurd (omega arith)
 read_rose told (Some command) before now answer result out notes a d rose = fault_status answer result out notes (a.rose rose) d
 
-pub read_lacks : (told : Told) (command : Option Convert) (before now : ℕ) (answer : Result (List ℕ) Refusal) (result : Status) (out notes : Change)
+pub read_lacks : (told : Told) (command : Option Command) (before now : ℕ) (answer : Result (List ℕ) Refusal) (result : Status) (out notes : Change)
     → Answers told command before now answer → Delivers answer result out notes → Lacks told command → (result ≡ status.ReadFault) ⊎ (result ≡ status.Memory)
 read_lacks told None before now answer result out notes a d lacks = absurd lacks
 read_lacks told (Some command) before now answer result out notes a d lacks = elim (a.lacks lacks) [
@@ -175,18 +183,20 @@ read_lacks told (Some command) before now answer result out notes a d lacks = el
 ]
 
 -- the status of a read fault comes only for one
-is_read_fault : (refusal : Refusal) → status_of refusal ≡ status.ReadFault → IsReadFault (Err refusal)
+is_read_fault : (refusal : Refusal) → status_of refusal ≡ status.ReadFault → IsReadFault {A = List ℕ} (Err refusal)
 is_read_fault (ReadFault file) e = tt
+is_read_fault (Step step (step_fault.Over limit)) e = absurd cc
+is_read_fault (Step step fault) e = absurd cc
 is_read_fault refusal e = absurd cc
 
-command_read_only : (told : Told) (command : Convert) (before now : ℕ) (answer : Result (List ℕ) Refusal) (result : Status) (out notes : Change)
+command_read_only : (told : Told) (command : Command) (before now : ℕ) (answer : Result (List ℕ) Refusal) (result : Status) (out notes : Change)
     → AnswersCommand told command before now answer → Delivers answer result out notes → result ≡ status.ReadFault → Rose before now ⊎ LacksFile told command
 command_read_only told command before now (Ok text) result out notes a (inl w) e = let s = sym w.status ∙ e in absurd cc
 command_read_only told command before now (Ok text) result out notes a (inr w) e = let s = sym w.refused.status ∙ e in absurd cc
 command_read_only told command before now (Err refusal) result out notes a d e =
     elim (refused_status refusal result notes d.1) [ inl s ↦ a.read_fault (is_read_fault refusal (sym s ∙ e)) | inr s ↦ let m = sym s ∙ e in absurd cc ]
 
-pub read_only : (told : Told) (command : Option Convert) (before now : ℕ) (answer : Result (List ℕ) Refusal) (result : Status) (out notes : Change)
+pub read_only : (told : Told) (command : Option Command) (before now : ℕ) (answer : Result (List ℕ) Refusal) (result : Status) (out notes : Change)
     → Answers told command before now answer → Delivers answer result out notes → result ≡ status.ReadFault → Rose before now ⊎ Lacks told command
 read_only told None before now answer result out notes a d e = let words = sym (told_words answer result out notes a.0 d) ∙ e in absurd cc
 read_only told (Some command) before now answer result out notes a d e = command_read_only told command before now answer result out notes a d e
@@ -194,6 +204,8 @@ read_only told (Some command) before now answer result out notes a d e = command
 -- no refusal ends with status 0
 not_done : (refusal : Refusal) → status_of refusal ≢ status.Done
 not_done Words e = cc
+not_done (Step step (step_fault.Over limit)) e = cc
+not_done (Step step fault) e = cc
 not_done refusal e = cc
 
 pub refusal_not_done : (refusal : Refusal) (result : Status) (notes : Change)

@@ -13,16 +13,19 @@ use Rattle.dk_syntax.specs.declared.Problem.{Problem}
 use Rattle.tstp_trace.specs.Traces.{names_of as trace_names}
 use Rattle.tstp_trace.specs.declared.Step.{Step}
 use Rattle.tstp_trace.specs.declared.Trace.{Trace}
-use Rattle.dk_cli.specs.Outcome.{IsGraphIn, IsRootIn, formulas_of, graph_refusal, node_of, nodes_of}
+use Rattle.dk_cli.specs.Conversion.{IsRootIn, formulas_of}
+use Rattle.step_check.specs.Steps.{node_of, nodes_of}
+use Rattle.dk_cli.specs.Derivations.{IsGraphIn, graph_refusal}
 use Rattle.dk_cli.specs.Stages.{IsToldBy, told_by}
 use Rattle.dk_cli.specs.declared.refusal.Refusal.{Refusal}
 use Rattle.std.proofs.lemmas.Option.{slice_get_within}
 use Rattle.dk_cli.proofs.StageLaws.{found_same, told_found}
 
-module _ (trace : Trace) (graph : Graph) (given : IsGraphIn trace (Ok graph)) where
-  derived : IsGraphAnswer (nodes_of trace) (Ok graph)
-  derived = told_found graph_refusal (IsGraphAnswer (nodes_of trace)) graph given
+-- the answer of the graph, where the stage found one
+pub graph_given : (trace : Trace) (graph : Graph) → IsGraphIn trace (Ok graph) → IsGraphAnswer (nodes_of trace) (Ok graph)
+graph_given trace graph given = told_found graph_refusal (IsGraphAnswer (nodes_of trace)) graph given
 
+module _ (trace : Trace) (graph : Graph) (derived : IsGraphAnswer (nodes_of trace) (Ok graph)) where
   rows : graph.parents ≡ rows_of (nodes_of trace)
   rows = derived.0.1
 

@@ -1,8 +1,12 @@
 pub mod Carried
+pub mod Continued
+pub mod ConversionLaws
+pub mod DerivationLaws
 pub mod Derived
+pub mod JudgingLaws
 pub mod OneOutcome
-pub mod OutcomeLaws
 pub mod Proved
+pub mod Reported
 pub mod RootMarks
 pub mod StageLaws
 pub mod Unread

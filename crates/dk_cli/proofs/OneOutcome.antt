@@ -1,32 +1,33 @@
--- Two files have one outcome.
-use Rattle.std.proofs.Common.{◌≡◌, ◌≢◌, ℕ, ◌-◌, List, Ok, Err, None, Some, refl, sym, ◌∙◌, ap, subst, arith}
+-- A command has one outcome on its files.
+use Rattle.std.proofs.Common.{◌≡◌, ℕ, ◌-◌, List, Ok, Err, None, Some, refl, sym, ◌∙◌, ap, arith}
 use Rattle.std.specs.declared.option.Option.{Option}
 use Rattle.std.specs.declared.result.Result.{Result}
 use Rattle.derivation_graph.specs.Graphs.{IsGraphAnswer}
 use Rattle.derivation_graph.specs.declared.Graph.{Graph}
-use Rattle.derivation_graph.specs.declared.GraphFault.{GraphFault}
 use Rattle.derivation_graph.specs.declared.GraphFault.TheVariants as graph_fault
 use Rattle.dk_syntax.specs.declared.Problem.{Problem}
-use Rattle.flat_steps.specs.declared.Instance.{Instance}
-use Rattle.flat_steps.specs.declared.PlanFault.{PlanFault}
 use Rattle.flat_steps.specs.declared.PlanFault.TheVariants as plan_fault
 use Rattle.tptp_text.specs.Text.{IsReadAnswer}
-use Rattle.tptp_text.specs.declared.Item.{Item}
-use Rattle.tptp_text.specs.declared.TptpFault.{TptpFault}
 use Rattle.tptp_text.specs.declared.TptpFault.TheVariants as text_fault
 use Rattle.tstp_trace.specs.Problems.{IsProblemAnswer}
 use Rattle.tstp_trace.specs.Traces.{IsTraceAnswer}
-use Rattle.tstp_trace.specs.declared.ProblemFault.{ProblemFault}
 use Rattle.tstp_trace.specs.declared.ProblemFault.TheVariants as problem_fault
 use Rattle.tstp_trace.specs.declared.Trace.{Trace}
-use Rattle.tstp_trace.specs.declared.TraceFault.{TraceFault}
 use Rattle.tstp_trace.specs.declared.TraceFault.TheVariants as trace_fault
-use Rattle.dk_cli.specs.Outcome.{ArePlanned, IsBuilt, IsConverted, IsDeveloped, IsFile, IsFlatDeveloped, IsGraphIn, IsOutcome, IsPlanIn, IsProblemIn, IsRootIn, IsText, IsTraceIn, IsWritten, barred, formulas_of, graph_refusal, nodes_of, plan_refusal, problem_refusal, root_told, text_refusal, trace_refusal}
+use Rattle.dk_cli.specs.Commands.{Command, Names, convert, steps}
+use Rattle.dk_cli.specs.Conversion.{ArePlanned, IsBuilt, IsDeveloped, IsFlatDeveloped, IsPlanIn, IsRightDeveloped, IsRootIn, IsWritten, barred, formulas_of, plan_refusal, root_told}
+use Rattle.dk_cli.specs.Derivations.{IsDerivationAt, IsDerivationIn, IsDerivedBy, IsFile, IsGraphIn, IsProblemIn, IsText, IsTraceIn, derivation, graph_refusal, problem_refusal, text_refusal, trace_refusal}
+use Rattle.dk_cli.specs.Judging.{IsJudged}
+use Rattle.dk_cli.specs.Outcome.{IsGiven, IsOutcome}
+use Rattle.dk_cli.specs.StepReport.{IsReported}
 use Rattle.dk_cli.specs.Stages.{Follows, IsToldBy}
+use Rattle.dk_cli.specs.declared.derivation.Derivation.{Derivation}
 use Rattle.dk_cli.specs.declared.refusal.File.{File}
 use Rattle.dk_cli.specs.declared.refusal.File.TheVariants as file
 use Rattle.dk_cli.specs.declared.refusal.Refusal.{Refusal}
 use Rattle.dk_cli.specs.declared.refusal.Refusal.TheVariants as refusal
+use Rattle.step_check.specs.Steps.{nodes_of}
+use Rattle.dk_cli.proofs.JudgingLaws.{one_judged, one_reported}
 use Rattle.dk_cli.proofs.StageLaws.{IsOne, one_of_two, one_told}
 use Rattle.flat_steps.proofs.PlanLaws.{one_answer}
 use Rattle.tptp_text.proofs.TextLaws.{one_reading}
@@ -62,6 +63,20 @@ one_trace_in bytes =
 one_graph_in : (trace : Trace) → IsOne refusal.Memory (IsGraphIn trace)
 one_graph_in trace = one_told graph_refusal graph_fault.Memory (λ fault e. ap graph_refusal e) (IsGraphAnswer (nodes_of trace)) (one_graph (nodes_of trace))
 
+one_derived_by : (problem : Problem) (trace : Trace) → IsOne refusal.Memory (IsDerivedBy problem trace)
+one_derived_by problem trace =
+    one_of_two (IsGraphIn trace) (λ graph end. end ≡ Ok (derivation problem trace graph)) (one_graph_in trace) (λ graph one other h k not_one not_other. h ∙ sym k)
+
+one_derivation_in : (problem trace : List ℕ) → IsOne refusal.Memory (IsDerivationIn problem trace)
+one_derivation_in problem trace =
+    one_of_two (IsProblemIn problem) (λ found. Follows (IsTraceIn trace) (IsDerivedBy found)) (one_problem_in problem)
+    (λ found. one_of_two (IsTraceIn trace) (IsDerivedBy found) (one_trace_in trace) (one_derived_by found))
+
+one_derivation : (names : Names) (files : List ℕ → Option (List ℕ)) → IsOne refusal.Memory (IsDerivationAt names files)
+one_derivation names files =
+    one_of_two (IsFile file.Problem (files names.problem)) (λ first. Follows (IsFile file.Trace (files names.trace)) (IsDerivationIn first)) (one_file file.Problem (files names.problem))
+    (λ first. one_of_two (IsFile file.Trace (files names.trace)) (IsDerivationIn first) (one_file file.Trace (files names.trace)) (one_derivation_in first))
+
 module _ (problem : Problem) (trace : Trace) where
   one_root_in : IsOne refusal.Memory (IsRootIn problem trace)
   one_root_in one other (found, h, e) (another, k, d) not_one not_other =
@@ -90,20 +105,18 @@ module _ (problem : Problem) (trace : Trace) where
       one_of_two (IsBuilt problem trace) (λ nothing. Follows (IsPlanIn problem trace graph root) (IsWritten problem)) one_built
       (λ nothing. one_of_two (IsPlanIn problem trace graph root) (IsWritten problem) (one_plan_in graph root) (λ instances one other h k not_one not_other. h ∙ sym k))
 
-  one_developed : IsOne refusal.Memory (IsDeveloped problem trace)
-  one_developed =
-      one_of_two (IsGraphIn trace) (λ graph. Follows (IsRootIn problem trace) (IsFlatDeveloped problem trace graph)) (one_graph_in trace)
-      (λ graph. one_of_two (IsRootIn problem trace) (IsFlatDeveloped problem trace graph) one_root_in (one_flat graph))
+one_right_developed : (d : Derivation) (root : ℕ) → IsOne refusal.Memory (IsRightDeveloped d root)
+one_right_developed d root =
+    one_of_two (IsJudged d) (λ nothing. IsFlatDeveloped d.problem d.trace d.graph root) (one_judged d) (λ nothing. one_flat d.problem d.trace d.graph root)
+
+one_developed : (d : Derivation) → IsOne refusal.Memory (IsDeveloped d)
+one_developed d = one_of_two (IsRootIn d.problem d.trace) (IsRightDeveloped d) (one_root_in d.problem d.trace) (one_right_developed d)
 
 -- ---- the whole
 
-one_converted : (problem trace : List ℕ) → IsOne refusal.Memory (IsConverted problem trace)
-one_converted problem trace =
-    one_of_two (IsProblemIn problem) (λ found. Follows (IsTraceIn trace) (IsDeveloped found)) (one_problem_in problem)
-    (λ found. one_of_two (IsTraceIn trace) (IsDeveloped found) (one_trace_in trace) (one_developed found))
+one_given : (command : Command) (files : List ℕ → Option (List ℕ)) → IsOne refusal.Memory (IsGiven command files)
+one_given (convert names) files = one_of_two (IsDerivationAt names files) IsDeveloped (one_derivation names files) one_developed
+one_given (steps names) files = one_of_two (IsDerivationAt names files) IsReported (one_derivation names files) one_reported
 
-pub one_outcome : (problem trace : Option (List ℕ)) (one other : Result (List ℕ) Refusal) → IsOutcome problem trace one → IsOutcome problem trace other → one ≡ other
-one_outcome problem trace one other h k =
-    one_of_two (IsFile file.Problem problem) (λ first. Follows (IsFile file.Trace trace) (IsConverted first)) (one_file file.Problem problem)
-    (λ first. one_of_two (IsFile file.Trace trace) (IsConverted first) (one_file file.Trace trace) (one_converted first))
-    one other h.given k.given h.memory k.memory
+pub one_outcome : (command : Command) (files : List ℕ → Option (List ℕ)) (one other : Result (List ℕ) Refusal) → IsOutcome command files one → IsOutcome command files other → one ≡ other
+one_outcome command files one other h k = one_given command files one other h.given k.given h.memory k.memory

@@ -1,5 +1,5 @@
 -- What is written is a proof of the problem.
-use Rattle.std.proofs.Common.{◌≡◌, ℕ, ◌-◌, ◌⊎◌, List, slice_get, arith, Ok, Err, None, Some, IfSome, inl, inr, refl, sym, ◌∙◌, ap, subst}
+use Rattle.std.proofs.Common.{◌≡◌, ℕ, ◌-◌, ◌⊎◌, List, slice_get, arith, Ok, Err, None, Some, inl, inr, refl, sym, ◌∙◌, ap, subst}
 use Rattle.std.specs.declared.option.Option.{Option}
 use Rattle.std.specs.declared.result.Result.{Result}
 use Rattle.std.specs.Io.KnownBytes.{Appends}
@@ -23,12 +23,17 @@ use Rattle.tptp_text.specs.declared.Item.{Item}
 use Rattle.tstp_trace.specs.Problems.{IsProblemAnswer}
 use Rattle.tstp_trace.specs.declared.Step.{Step}
 use Rattle.tstp_trace.specs.declared.Trace.{Trace}
-use Rattle.dk_cli.specs.Answer.{Answers, AnswersCommand}
-use Rattle.dk_cli.specs.Commands.{Convert}
+use Rattle.dk_cli.specs.Answer.{Answers, AnswersCommand, IsTold}
+use Rattle.step_check.specs.Steps.{nodes_of}
+use Rattle.dk_cli.specs.Commands.{Command, Names, convert}
 use Rattle.dk_cli.specs.Delivery.{Change, Delivers, IsWritten as IsTextWritten}
-use Rattle.dk_cli.specs.Outcome.{ArePlanned, IsBuilt, IsConverted, IsDeveloped, IsFile, IsFlatDeveloped, IsGiven, IsGraphIn, IsPlanIn, IsProblemIn, IsRootIn, IsText, IsTraceIn, IsWritten, formulas_of, graph_refusal, nodes_of, plan_refusal, problem_refusal}
+use Rattle.dk_cli.specs.Conversion.{ArePlanned, IsBuilt, IsDeveloped, IsFlatDeveloped, IsPlanIn, IsRightDeveloped, IsRootIn, IsWritten, formulas_of, plan_refusal}
+use Rattle.dk_cli.specs.Derivations.{IsDerivationIn, IsDerivationOf, IsDerivedBy, IsFile, IsGraphIn, IsProblemIn, IsText, IsTraceIn, derivation, graph_refusal, problem_refusal}
+use Rattle.dk_cli.specs.Judging.{IsJudged}
+use Rattle.dk_cli.specs.Outcome.{IsOutcome}
 use Rattle.dk_cli.specs.Proof.{IsProofOf, WritesProof}
 use Rattle.dk_cli.specs.Stages.{Follows, IsToldBy}
+use Rattle.dk_cli.specs.declared.derivation.Derivation.{Derivation}
 use Rattle.dk_cli.specs.declared.refusal.File.{File}
 use Rattle.dk_cli.specs.declared.refusal.File.TheVariants as file
 use Rattle.dk_cli.specs.declared.refusal.Refusal.{Refusal}
@@ -93,15 +98,17 @@ record IsProvedText (problem : Problem) (text : List ℕ) : Type 0 where
   pub proof : IsProofOf problem development
   pub same : text ≡ text_of development
 
-proved_by : (problem : Problem) (trace : Trace) (text : List ℕ) → HasItsSymbols problem → IsDeveloped problem trace (Ok text) → IsProvedText problem text
-proved_by problem trace text symbols h =
-    let graphed = follows_found (IsGraphIn trace) (λ graph. Follows (IsRootIn problem trace) (IsFlatDeveloped problem trace graph)) text h in
-    let graph = graphed.0 in
-    let rooted = follows_found (IsRootIn problem trace) (IsFlatDeveloped problem trace graph) text graphed.2 in
+proved_by : (d : Derivation) (text : List ℕ) → HasItsSymbols d.problem → IsGraphIn d.trace (Ok d.graph) → IsDeveloped d (Ok text) → IsProvedText d.problem text
+proved_by d text symbols graphed h =
+    let problem = d.problem in
+    let trace = d.trace in
+    let graph = d.graph in
+    let rooted = follows_found (IsRootIn problem trace) (IsRightDeveloped d) text h in
     let root = rooted.0 in
-    let built = follows_found (IsBuilt problem trace) (λ nothing. Follows (IsPlanIn problem trace graph root) (IsWritten problem)) text rooted.2 in
+    let right = follows_found (IsJudged d) (λ nothing. IsFlatDeveloped problem trace graph root) text rooted.2 in
+    let built = follows_found (IsBuilt problem trace) (λ nothing. Follows (IsPlanIn problem trace graph root) (IsWritten problem)) text right.2 in
     let planned = follows_found (IsPlanIn problem trace graph root) (IsWritten problem) text built.2 in
-    let derived = told_found graph_refusal (IsGraphAnswer (nodes_of trace)) graph graphed.1 in
+    let derived = told_found graph_refusal (IsGraphAnswer (nodes_of trace)) graph graphed in
     let plans = told_found plan_refusal (ArePlanned problem trace graph root) planned.0 planned.1 in
     record {
       development = development_of problem planned.0;
@@ -119,45 +126,64 @@ record IsProofText (found : Option (List ℕ)) (text : List ℕ) : Type 0 where
   pub proof : IsProofOf problem development
   pub same : text ≡ text_of development
 
-proof_text : (found other : Option (List ℕ)) (text : List ℕ) → IsGiven found other (Ok text) → IsProofText found text
+-- what a derivation holds comes from the problem's bytes and has a graph
+record IsRead (found : Option (List ℕ)) (d : Derivation) : Type 0 where
+  pub bytes : List ℕ
+  pub is : found ≡ Some bytes
+  pub spelled : IsProblemIn bytes (Ok d.problem)
+  pub graphed : IsGraphIn d.trace (Ok d.graph)
+
+read_same : (found : Option (List ℕ)) (d : Derivation) (bytes : List ℕ) (problem : Problem) (trace : Trace) (graph : Graph) → found ≡ Some bytes
+    → IsProblemIn bytes (Ok problem) → IsGraphIn trace (Ok graph) → d ≡ derivation problem trace graph → IsRead found d
+read_same found d bytes problem trace graph is spelled graphed same =
+    subst (IsRead found) (sym same) record { bytes = bytes; is = is; spelled = spelled; graphed = graphed }
+
+derivation_read : (found other : Option (List ℕ)) (d : Derivation) → IsDerivationOf found other (Ok d) → IsRead found d
+derivation_read found other d h =
+    let first = follows_found (IsFile file.Problem found) (λ bytes. Follows (IsFile file.Trace other) (IsDerivationIn bytes)) d h in
+    let second = follows_found (IsFile file.Trace other) (IsDerivationIn first.0) d first.2 in
+    let third = follows_found (IsProblemIn first.0) (λ problem. Follows (IsTraceIn second.0) (IsDerivedBy problem)) d second.2 in
+    let fourth = follows_found (IsTraceIn second.0) (IsDerivedBy third.0) d third.2 in
+    let fifth = follows_found (IsGraphIn fourth.0) (λ graph end. end ≡ Ok (derivation third.0 fourth.0 graph)) d fourth.2 in
+    read_same found d first.0 third.0 fourth.0 fifth.0 (file_found file.Problem found first.0 first.1) third.1 fifth.1
+    (found_same {F = Refusal} d (derivation third.0 fourth.0 fifth.0) fifth.2)
+
+proof_text : (found other : Option (List ℕ)) (text : List ℕ) → Follows (IsDerivationOf found other) IsDeveloped (Ok text) → IsProofText found text
 proof_text found other text h =
-    let first = follows_found (IsFile file.Problem found) (λ bytes. Follows (IsFile file.Trace other) (IsConverted bytes)) text h in
-    let second = follows_found (IsFile file.Trace other) (IsConverted first.0) text first.2 in
-    let third = follows_found (IsProblemIn first.0) (λ problem. Follows (IsTraceIn second.0) (IsDeveloped problem)) text second.2 in
-    let fourth = follows_found (IsTraceIn second.0) (IsDeveloped third.0) text third.2 in
-    let proved = proved_by third.0 fourth.0 text (problem_has_symbols first.0 third.0 third.1) fourth.2 in
+    let first = follows_found (IsDerivationOf found other) IsDeveloped text h in
+    let read = derivation_read found other first.0 first.1 in
+    let proved = proved_by first.0 text (problem_has_symbols read.bytes first.0.problem read.spelled) read.graphed first.2 in
     record {
-      bytes = first.0;
-      is = file_found file.Problem found first.0 first.1;
-      problem = third.0;
-      spelled = third.1;
+      bytes = read.bytes;
+      is = read.is;
+      problem = first.0.problem;
+      spelled = read.spelled;
       development = proved.development;
       proof = proved.proof;
       same = proved.same;
     }
 
 -- a text that was written whole
-writes_text : (told : Told) (command : Convert) (before now : ℕ) (text : List ℕ) (out : Change)
-    → AnswersCommand told command before now (Ok text) → Appends out.old out.new text → WritesProof told command out
-writes_text None command before now text out a bytes = tt
-writes_text (Some files) command before now text out a bytes = elim a.outcome [
-  | inl h ↦ absurd h.0
-  | inr rest ↦ elim rest [
-    | inl h ↦ absurd h
-    | inr outcome ↦
-        let proof = proof_text (files command.problem) (files command.trace) text outcome.given in
-        (proof.bytes, proof.is, (proof.problem, proof.spelled, (proof.development, proof.proof, subst (Appends out.old out.new) proof.same bytes)))
-  ]
-]
+module _ (told : Told) (names : Names) (before now : ℕ) where
+  writes_text : (given : Told) (text : List ℕ) (out : Change) → IsTold given (IsOutcome (convert names)) (Ok text) → Appends out.old out.new text
+      → WritesProof given names out
+  writes_text None text out outcome bytes = tt
+  writes_text (Some files) text out outcome bytes =
+      let proof = proof_text (files names.problem) (files names.trace) text outcome.given in
+      (proof.bytes, proof.is, (proof.problem, proof.spelled, (proof.development, proof.proof, subst (Appends out.old out.new) proof.same bytes)))
 
-writes_by_command : (told : Told) (command : Convert) (before now : ℕ) (answer : Result (List ℕ) Refusal) (result : Status) (out notes : Change)
-    → AnswersCommand told command before now answer → Delivers answer result out notes → result ≡ status.Done → WritesProof told command out
-writes_by_command told command before now (Ok text) result out notes a (inl w) done = writes_text told command before now text out a w.bytes
-writes_by_command told command before now (Ok text) result out notes a (inr w) done = let s = sym w.refused.status ∙ done in absurd cc
-writes_by_command told command before now (Err refusal) result out notes a d done = absurd (refusal_not_done refusal result notes d.1 done)
+  told_text : (text : List ℕ) → AnswersCommand told (convert names) before now (Ok text) → IsTold told (IsOutcome (convert names)) (Ok text)
+  told_text text a = elim a.outcome [ inl h ↦ absurd h.0 | inr rest ↦ elim rest [ inl h ↦ absurd h | inr outcome ↦ outcome ] ]
 
--- status 0 comes with a proof
-pub writes_proof : (told : Told) (command : Option Convert) (before now : ℕ) (answer : Result (List ℕ) Refusal) (result : Status) (out notes : Change)
-    → Answers told command before now answer → Delivers answer result out notes → result ≡ status.Done → IfSome command (λ found. WritesProof told found out)
-writes_proof told None before now answer result out notes a d done = tt
-writes_proof told (Some command) before now answer result out notes a d done = writes_by_command told command before now answer result out notes a d done
+  converts : (answer : Result (List ℕ) Refusal) (result : Status) (out notes : Change)
+      → AnswersCommand told (convert names) before now answer → Delivers answer result out notes → result ≡ status.Done → WritesProof told names out
+  converts (Ok text) result out notes a (inl w) done = writes_text told text out (told_text text a) w.bytes
+  converts (Ok text) result out notes a (inr w) done = let s = sym w.refused.status ∙ done in absurd cc
+  converts (Err refusal) result out notes a d done = absurd (refusal_not_done refusal result notes d.1 done)
+
+-- status 0 of `convert` comes with a proof
+pub writes_proof : (told : Told) (command : Option Command) (before now : ℕ) (answer : Result (List ℕ) Refusal) (result : Status) (out notes : Change)
+    → Answers told command before now answer → Delivers answer result out notes → (names : Names) → command ≡ Some (convert names) → result ≡ status.Done
+    → WritesProof told names out
+writes_proof told command before now answer result out notes a d names asked done =
+    converts told names before now answer result out notes (subst (λ c. Answers told c before now answer) asked a) d done

@@ -1,5 +1,5 @@
 -- The root is looked for by marks in place of formulas.
-use Rattle.std.proofs.Common.{◌≡◌, ℕ, ◌<◌, Bool, true, false, if◌then◌else◌, List, map, Option, Some, None, slice_get, refl, sym, ◌∙◌, ap, subst, rules}
+use Rattle.std.proofs.Common.{◌≡◌, ℕ, Bool, true, false, List, map, Option, Some, None, slice_get, refl, sym, ◌∙◌, ap, subst, rules}
 use Rattle.std.proofs.lemmas.Option.{slice_get-map}
 use Rattle.std.specs.Option.{option_map}
 use Rattle.derivation_graph.specs.Roots.{IsRootAnswer, MarksFalsities}
@@ -10,7 +10,7 @@ use Rattle.dk_syntax.specs.declared.Formula.TheVariants.{True, False, Atom, Not,
 use Rattle.flat_form.specs.Flat.{is_false}
 use Rattle.tstp_trace.specs.declared.Step.{Step}
 use Rattle.tstp_trace.specs.declared.Trace.{Trace}
-use Rattle.dk_cli.specs.Outcome.{barred, formulas_of}
+use Rattle.dk_cli.specs.Conversion.{barred, formulas_of}
 use Rattle.dk_cli.specs.Steps.{falsities}
 
 clash : (b : Bool) (f : Formula) → b ≡ false → b ≡ true → f ≡ False

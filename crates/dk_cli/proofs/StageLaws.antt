@@ -3,7 +3,7 @@ use Rattle.std.proofs.Common.{◌≡◌, ◌≢◌, Ok, Err, refl, sym, ◌∙�
 use Rattle.std.specs.declared.result.Result.{Result}
 use Rattle.dk_cli.specs.Stages.{Answered, Continues, Follows, IsToldBy, told_by}
 use Rattle.dk_cli.specs.declared.refusal.Refusal.{Refusal}
-use Rattle.dk_cli.specs.declared.refusal.Refusal.TheVariants.{Memory, Words}
+use Rattle.dk_cli.specs.declared.refusal.Refusal.TheVariants.{Memory}
 
 -- ---- what the code finds
 

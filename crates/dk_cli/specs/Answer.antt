@@ -1,31 +1,40 @@
 -- What the program answers to a command, before anything is written.
-use Rattle.std.specs.Prelude.{◌≡◌, ℕ, ◌<◌, ◌≤◌, ◌⊎◌, List, length, None, Some, Ok, Err, IfErr}
+use Rattle.std.specs.Prelude.{◌≡◌, ℕ, ◌<◌, ◌≤◌, ◌⊎◌, List, [], ◌∷◌, length, None, Some, Err, IfErr}
 use Rattle.std.specs.declared.option.Option.{Option}
 use Rattle.std.specs.declared.result.Result.{Result}
 use Rattle.dk_io.specs.Causes.{Rose}
 use Rattle.dk_io.specs.Outside.{Told, IsAbsent, Tells}
-use Rattle.dk_cli.specs.Commands.{Convert}
-use Rattle.dk_cli.specs.Outcome.{IsOutcome, byte_limit}
+use Rattle.dk_cli.specs.Commands.{Command, files_of}
+use Rattle.dk_cli.specs.Derivations.{byte_limit}
+use Rattle.dk_cli.specs.Outcome.{IsOutcome}
 use Rattle.dk_cli.specs.declared.refusal.Refusal.{Refusal}
 use Rattle.dk_cli.specs.declared.refusal.Refusal.TheVariants.{Words, ReadFault, WriteFault, Memory}
 
--- A file that the command reads is absent. The trace is read only where the problem was read whole.
-abbrev pub LacksFile : Told → Convert → Type 0
-LacksFile told command = IsAbsent told command.problem
-    ⊎ ((problem : List ℕ) × Tells told command.problem problem × (length problem ≤ byte_limit) × IsAbsent told command.trace)
+-- One of the files is absent. Each is read only where those before it were read whole.
+abbrev pub LacksOneOf : Told → List (List ℕ) → Type 0
+LacksOneOf told [] = ⊥
+LacksOneOf told (name ∷ rest) = IsAbsent told name ⊎ ((bytes : List ℕ) × Tells told name bytes × (length bytes ≤ byte_limit) × LacksOneOf told rest)
 
-abbrev pub IsReadFault : Result (List ℕ) Refusal → Type 0
+-- A file that the command reads is absent.
+abbrev pub LacksFile : Told → Command → Type 0
+LacksFile told command = LacksOneOf told (files_of command)
+
+abbrev pub IsReadFault : {A : Type 0} → Result A Refusal → Type 0
 IsReadFault (Err (ReadFault file)) = Unit {0}
 IsReadFault answer = ⊥
 
-abbrev pub IsMemory : Result (List ℕ) Refusal → Type 0
+abbrev pub IsMemory : {A : Type 0} → Result A Refusal → Type 0
 IsMemory (Err Memory) = Unit {0}
 IsMemory answer = ⊥
 
--- Where the inputs tell their bytes, this is the outcome of the command's two files.
-abbrev pub IsToldOutcome : Told → Convert → Result (List ℕ) Refusal → Type 0
-IsToldOutcome None command answer = Unit {0}
-IsToldOutcome (Some files) command answer = IsOutcome (files command.problem) (files command.trace) answer
+-- Where the inputs tell their bytes, the files give this.
+abbrev pub IsTold : {A : Type 0} → Told → ((List ℕ → Option (List ℕ)) → Result A Refusal → Type 0) → Result A Refusal → Type 0
+IsTold None Is answer = Unit {0}
+IsTold (Some files) Is answer = Is files answer
+
+-- Where the inputs tell their bytes, this is the outcome of the command.
+abbrev pub IsToldOutcome : Told → Command → Result (List ℕ) Refusal → Type 0
+IsToldOutcome told command answer = IsTold told (IsOutcome command) answer
 
 -- A command is refused neither for its words nor, before anything is written, for its writing.
 abbrev pub ComesBeforeWriting : Refusal → Type 0
@@ -33,16 +42,21 @@ ComesBeforeWriting Words = ⊥
 ComesBeforeWriting WriteFault = ⊥
 ComesBeforeWriting refusal = Unit {0}
 
--- The answer to a command: the outcome, unless the inputs failed or memory ran out.
-pub record AnswersCommand (told : Told) (command : Convert) (before now : ℕ) (answer : Result (List ℕ) Refusal) : Type 0 where
+-- The answer to what reads files, of which one lacks or not, by the counts of the inputs before and now:
+-- what the files give, unless the inputs failed or memory ran out.
+pub record IsAnswer {A : Type 0} (Lacks : Type 0) (Is : Result A Refusal → Type 0) (before now : ℕ) (answer : Result A Refusal) : Type 0 where
   pub later : before ≤ now
   pub rose : before < now → IsReadFault answer
-  pub lacks : LacksFile told command → IsReadFault answer ⊎ IsMemory answer
-  pub outcome : (IsReadFault answer × Rose before now) ⊎ (IsMemory answer ⊎ IsToldOutcome told command answer)
-  pub read_fault : IsReadFault answer → Rose before now ⊎ LacksFile told command
+  pub lacks : Lacks → IsReadFault answer ⊎ IsMemory answer
+  pub outcome : (IsReadFault answer × Rose before now) ⊎ (IsMemory answer ⊎ Is answer)
+  pub read_fault : IsReadFault answer → Rose before now ⊎ Lacks
   pub refusal : IfErr answer ComesBeforeWriting
 
+-- The answer to a command.
+abbrev pub AnswersCommand : Told → Command → ℕ → ℕ → Result (List ℕ) Refusal → Type 0
+AnswersCommand told command before now answer = IsAnswer (LacksFile told command) (IsToldOutcome told command) before now answer
+
 -- The answer to the words, which ask for a command or for none.
-abbrev pub Answers : Told → Option Convert → ℕ → ℕ → Result (List ℕ) Refusal → Type 0
+abbrev pub Answers : Told → Option Command → ℕ → ℕ → Result (List ℕ) Refusal → Type 0
 Answers told None before now answer = (answer ≡ Err Words) × (now ≡ before)
 Answers told (Some command) before now answer = AnswersCommand told command before now answer

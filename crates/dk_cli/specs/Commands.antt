@@ -14,14 +14,32 @@ is_file_name [] = true
 is_file_name (first ∷ []) = true
 is_file_name (first ∷ second ∷ rest) = if first == 45 then false else true
 
--- The command `convert`, with the names of the files that it reads.
-pub record Convert : Type 0 where
+-- The names of a problem's file and of a trace's.
+pub record Names : Type 0 where
   pub problem : List ℕ
   pub trace : List ℕ
 
--- `convert PROBLEM TRACE` is the one command.
-abbrev pub command_of : List (List ℕ) → Option Convert
+-- A command, with the names of its files.
+pub data Command : Type 0 where
+  convert : Names → Command
+  steps : Names → Command
+
+-- The files that a command reads, in order.
+abbrev pub files_of_names : Names → List (List ℕ)
+files_of_names names = names.problem ∷ names.trace ∷ []
+
+abbrev pub files_of : Command → List (List ℕ)
+files_of (convert names) = files_of_names names
+files_of (steps names) = files_of_names names
+
+-- The command on a problem and a trace that a word asks for.
+abbrev pub command_on : List ℕ → Names → Option Command
+command_on word names =
+    if bytes_eq word (codes "convert") then Some (convert names)
+    else (if bytes_eq word (codes "steps") then Some (steps names) else None)
+
+-- The commands are `convert PROBLEM TRACE` and `steps PROBLEM TRACE`.
+abbrev pub command_of : List (List ℕ) → Option Command
 command_of (word ∷ problem ∷ trace ∷ []) =
-    if bytes_eq word (codes "convert") && (is_file_name problem && is_file_name trace)
-    then Some (record { problem = problem; trace = trace }) else None
+    if is_file_name problem && is_file_name trace then command_on word (record { problem = problem; trace = trace }) else None
 command_of words = None

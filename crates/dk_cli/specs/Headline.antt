@@ -5,7 +5,7 @@ use Rattle.std.specs.declared.result.Result.{Result}
 use Rattle.std.specs.Io.KnownBytes.{Appends}
 use Rattle.dk_io.specs.Causes.{Rose}
 use Rattle.dk_io.specs.Outside.{Told, AppendsFront}
-use Rattle.dk_cli.specs.Commands.{Convert}
+use Rattle.dk_cli.specs.Commands.{Command}
 use Rattle.dk_cli.specs.Answer.{Answers, IsToldOutcome, LacksFile}
 use Rattle.dk_cli.specs.Delivery.{Change, Delivers, IsCut, IsNoted, IsRefused, IsUntouched, IsWritten}
 use Rattle.dk_cli.specs.declared.refusal.Refusal.{Refusal}
@@ -13,13 +13,13 @@ use Rattle.dk_cli.specs.declared.refusal.Status.{Status}
 use Rattle.dk_cli.specs.declared.refusal.Status.TheVariants as status
 
 -- There is an answer to the words, and it was delivered.
-pub record IsRun (told : Told) (command : Option Convert) (before now : ℕ) (result : Status) (out notes : Change) : Type 0 where
+pub record IsRun (told : Told) (command : Option Command) (before now : ℕ) (result : Status) (out notes : Change) : Type 0 where
   pub answer : Result (List ℕ) Refusal
   pub answers : Answers told command before now answer
   pub delivers : Delivers answer result out notes
 
 -- A file that the words' command reads is absent.
-abbrev pub Lacks : Told → Option Convert → Type 0
+abbrev pub Lacks : Told → Option Command → Type 0
 Lacks told None = ⊥
 Lacks told (Some command) = LacksFile told command
 
@@ -44,8 +44,8 @@ abbrev pub IsDone : Result (List ℕ) Refusal → Status → Change → Change �
 IsDone (Ok text) result out notes = IsWritten text result out notes ⊎ IsCut text result out notes
 IsDone (Err refusal) result out notes = IsUntouched out × IsRefused refusal result notes
 
--- Where the inputs' count did not rise and memory was found, what was done is the outcome of the files.
-abbrev pub DoesOutcome : Told → Convert → ℕ → ℕ → Status → Change → Change → Type 0
+-- Where the inputs' count did not rise and memory was found, what was done is the outcome of the command.
+abbrev pub DoesOutcome : Told → Command → ℕ → ℕ → Status → Change → Change → Type 0
 DoesOutcome told command before now result out notes =
     ¬ Rose before now → result ≢ status.Memory
     → (answer : Result (List ℕ) Refusal) × IsToldOutcome told command answer × IsDone answer result out notes
@@ -57,7 +57,7 @@ IsCarriedOut (Err refusal) result out notes = IsUntouched out × IsRefused refus
 
 -- Whatever the outcome of told files is, where no count rose and memory was found it is carried out in
 -- full. So there is one outcome, and each status, text and line comes exactly where it is the outcome's.
-abbrev pub CarriesOutEach : Told → Convert → ℕ → ℕ → Status → Change → Change → Type 0
+abbrev pub CarriesOutEach : Told → Command → ℕ → ℕ → Status → Change → Change → Type 0
 CarriesOutEach None command before now result out notes = Unit {0}
 CarriesOutEach (Some files) command before now result out notes =
     (answer : Result (List ℕ) Refusal) → IsToldOutcome (Some files) command answer

@@ -1,9 +1,13 @@
 pub mod Answer
 pub mod Commands
+pub mod Conversion
 pub mod Delivery
+pub mod Derivations
 pub mod Headline
+pub mod Judging
 pub mod Outcome
 pub mod Proof
 pub mod Refusals
 pub mod Stages
+pub mod StepReport
 pub mod Steps

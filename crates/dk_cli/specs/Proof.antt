@@ -1,6 +1,5 @@
 -- What is written is a proof of the problem.
 use Rattle.std.specs.Prelude.{◌≡◌, List, [], ◌∷◌, ◌++◌, ℕ, None, Some, Ok, codes}
-use Rattle.std.specs.declared.option.Option.{Option}
 use Rattle.std.specs.Io.KnownBytes.{Appends}
 use Rattle.dk_io.specs.Outside.{Told}
 use Rattle.dk_syntax.specs.declared.Problem.{Problem}
@@ -15,9 +14,9 @@ use Rattle.lp_term.specs.declared.Command.TheVariants.{Define}
 use Rattle.lp_term.specs.declared.Dev.{Dev}
 use Rattle.lp_term.specs.declared.Lp.{Lp}
 use Rattle.lp_text.specs.Print.{text_of}
-use Rattle.dk_cli.specs.Commands.{Convert}
+use Rattle.dk_cli.specs.Commands.{Names}
 use Rattle.dk_cli.specs.Delivery.{Change}
-use Rattle.dk_cli.specs.Outcome.{IsProblemIn}
+use Rattle.dk_cli.specs.Derivations.{IsProblemIn}
 
 -- The signature of a development for the problem: what its commands before `goal` declare.
 abbrev pub signature_for : Problem → List Declaration
@@ -40,9 +39,9 @@ pub record IsProofOf (problem : Problem) (development : Dev) : Type 0 where
   pub body_declared : Declared (signature_for problem) (term_of body)
 
 -- Where the inputs tell their bytes, the sink has one development more, and it is a proof of the problem
--- that the bytes of the command's first file are.
-abbrev pub WritesProof : Told → Convert → Change → Type 0
-WritesProof None command out = Unit {0}
-WritesProof (Some files) command out = (bytes : List ℕ) × (files command.problem ≡ Some bytes)
+-- that the bytes of the problem's file are.
+abbrev pub WritesProof : Told → Names → Change → Type 0
+WritesProof None names out = Unit {0}
+WritesProof (Some files) names out = (bytes : List ℕ) × (files names.problem ≡ Some bytes)
     × ((problem : Problem) × IsProblemIn bytes (Ok problem)
     × ((development : Dev) × IsProofOf problem development × Appends out.old out.new (text_of development)))

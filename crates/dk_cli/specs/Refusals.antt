@@ -1,8 +1,7 @@
 -- How a refusal is told: its status and its line.
 use Rattle.std.specs.Prelude.{ℕ, List, ◌++◌, codes, decimal, encode_utf8_all}
-use Rattle.flat_steps.specs.declared.Reason.{Reason}
-use Rattle.flat_steps.specs.declared.Reason.TheVariants as reason
-use Rattle.tptp_text.specs.Printed.{printed_item_name, printed_name}
+use Rattle.extract.specs.Words.{limit_word, reason_text}
+use Rattle.tptp_text.specs.Printed.{printed_item_name}
 use Rattle.tptp_text.specs.declared.OutsideKind.{OutsideKind}
 use Rattle.tptp_text.specs.declared.OutsideKind.TheVariants as kind
 use Rattle.tstp_trace.specs.declared.Unsupported.{Unsupported}
@@ -18,6 +17,10 @@ use Rattle.dk_cli.specs.declared.refusal.Status.TheVariants as status
 use Rattle.dk_cli.specs.declared.refusal.StepFault.{StepFault}
 use Rattle.dk_cli.specs.declared.refusal.StepFault.TheVariants as step_fault
 
+abbrev pub step_status : StepFault → Status
+step_status (step_fault.Over limit) = status.Limit
+step_status fault = status.Input
+
 abbrev pub status_of : Refusal → Status
 status_of Words = status.Words
 status_of (ReadFault file) = status.ReadFault
@@ -26,7 +29,7 @@ status_of (NotTptp file at) = status.Text
 status_of (TooDeep file at) = status.Limit
 status_of (TooManyItems file) = status.Limit
 status_of (Item item fault) = status.Input
-status_of (Step step fault) = status.Input
+status_of (Step step fault) = step_status fault
 status_of NoRefutation = status.Input
 status_of (Unbuilt file) = status.Unbuilt
 status_of WriteFault = status.WriteFault
@@ -55,13 +58,6 @@ unsupported_word unsupported.Mixed = codes "mixed"
 abbrev pub in_line : List ℕ → List ℕ
 in_line text = encode_utf8_all text
 
--- a symbol is told by its name alone
-abbrev pub reason_text : Reason → List ℕ
-reason_text reason.UnknownLeaf = codes "unknown leaf"
-reason_text reason.AlteredLeaf = codes "altered leaf"
-reason_text (reason.AlienSymbol name) = codes "alien symbol: " ++ in_line (printed_name name)
-reason_text reason.Unjustified = codes "unjustified clause 0"
-
 -- a free variable is told as it is
 abbrev pub item_fault_text : ItemFault → List ℕ
 item_fault_text (item_fault.Outside kind) = codes "outside: " ++ kind_word kind
@@ -76,7 +72,8 @@ step_fault_text step_fault.DuplicateName = codes "duplicate name"
 step_fault_text (step_fault.Unsupported why) = codes "unsupported: " ++ unsupported_word why
 step_fault_text (step_fault.MissingParent name) = codes "missing parent: " ++ in_line (printed_item_name name)
 step_fault_text step_fault.Cycle = codes "cycle"
-step_fault_text (step_fault.Wrong why) = codes "wrong: " ++ reason_text why
+step_fault_text (step_fault.Wrong reason) = codes "wrong: " ++ in_line (reason_text reason)
+step_fault_text (step_fault.Over limit) = codes "over: " ++ limit_word limit
 
 -- The line of a refusal, without its newline. Items and steps count from 1, bytes from 0.
 abbrev pub line_of : Refusal → List ℕ

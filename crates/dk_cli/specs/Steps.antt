@@ -1,22 +1,32 @@
 -- What the parts of a command answer.
-use Rattle.std.specs.Prelude.{◌≡◌, ℕ, ◌<◌, ◌≤◌, ◌⊎◌, Bool, List, length, None, Some, Ok, Err, IfOk, IfErr, map}
-use Rattle.std.specs.declared.option.Option.{Option}
+use Rattle.std.specs.Prelude.{◌≡◌, ℕ, ◌<◌, ◌≤◌, ◌⊎◌, Bool, List, length, Ok, Err, IfOk, IfErr, map}
 use Rattle.std.specs.declared.result.Result.{Result}
 use Rattle.std.specs.declared.vec.Vec.{Vec}
 use Rattle.std.specs.declared.alloc.Global.{Global}
 use Rattle.dk_io.specs.Causes.{Rose}
 use Rattle.dk_io.specs.Outside.{Told, IsAbsent, IsFile, Tells}
+use Rattle.derivation_graph.specs.Graphs.{IsGraphAnswer}
 use Rattle.flat_form.specs.Flat.{is_false}
+use Rattle.step_check.specs.Steps.{nodes_of}
+use Rattle.tstp_trace.specs.Traces.{HaveFitParents}
 use Rattle.tstp_trace.specs.declared.Trace.{Trace}
-use Rattle.dk_cli.specs.Commands.{Convert}
-use Rattle.dk_cli.specs.Outcome.{byte_limit}
+use Rattle.dk_cli.specs.Answer.{IsAnswer, IsTold, LacksOneOf}
+use Rattle.dk_cli.specs.Commands.{Command, Names, convert, files_of_names, steps}
+use Rattle.dk_cli.specs.Derivations.{IsDerivationAt, byte_limit}
+use Rattle.dk_cli.specs.declared.derivation.Derivation.{Derivation}
 use Rattle.dk_cli.specs.declared.refusal.Refusal.{Refusal}
 use Rattle.dk_cli.specs.declared.refusal.Refusal.TheVariants.{ReadFault, TooLong, Memory}
 use Rattle.dk_cli.specs.declared.refusal.File.{File}
-use Rattle.dk_cli.specs.declared.answer.Names.{Names}
+use Rattle.dk_cli.specs.declared.command.Command.{Command as CommandWords}
+use Rattle.dk_cli.specs.declared.command.Command.TheVariants as words
+use Rattle.dk_cli.specs.declared.command.Names.{Names as NamesWords}
 
-abbrev pub command_view : Names → Convert
-command_view names = record { problem = names.problem.now; trace = names.trace.now }
+abbrev pub names_view : NamesWords → Names
+names_view names = record { problem = names.problem.now; trace = names.trace.now }
+
+abbrev pub command_view : CommandWords → Command
+command_view (words.Convert names) = convert (names_view names)
+command_view (words.Steps names) = steps (names_view names)
 
 -- An answer, without where it lies in memory.
 abbrev pub answer_view : Result (Vec ℕ Global) Refusal → Result (List ℕ) Refusal
@@ -40,3 +50,12 @@ pub record ReadsFile (told : Told) (name : List ℕ) (file : File) (before now :
 -- which steps have the formula `$false`
 abbrev pub falsities : Trace → List Bool
 falsities trace = map (λ step. is_false step.formula) trace.steps
+
+-- The answer to the reading of a derivation from two files.
+abbrev pub AnswersDerivation : Told → Names → ℕ → ℕ → Result Derivation Refusal → Type 0
+AnswersDerivation told names before now answer = IsAnswer (LacksOneOf told (files_of_names names)) (IsTold told (IsDerivationAt names)) before now answer
+
+-- What holds of a derivation that was read, whether or not its bytes are told.
+pub record IsDerived (d : Derivation) : Type 0 where
+  pub graph : IsGraphAnswer (nodes_of d.trace) (Ok d.graph)
+  pub parents : HaveFitParents d.trace.steps

@@ -1,49 +1,18 @@
 //! The answer to the words: a text, or the first refusal. Neither the sink nor the notes are touched.
-ghost use Rattle.std.specs.Prelude.{◌≡◌, ◌≤◌, ◌<◌, ◌↔◌, None, length, IfOk, IsTrue};
-ghost use Rattle.std.specs.Option.{option_map};
+ghost use Rattle.std.specs.Prelude.{◌≡◌, None, IfOk};
 ghost use Rattle.dk_cli.specs.Answer.{Answers, AnswersCommand};
-ghost use Rattle.dk_cli.specs.Commands.{texts, command_of, is_file_name};
-ghost use Rattle.dk_cli.specs.Steps.{ReadsFile, answer_view, command_view};
+ghost use Rattle.dk_cli.specs.Commands.{texts, command_of, convert, steps};
+ghost use Rattle.dk_cli.specs.Steps.{AnswersDerivation, IsDerived, ReadsFile, answer_view};
+ghost use Rattle.dk_cli.specs.Steps.{command_view, names_view};
 
-use crate::conversion::converted;
+use crate::command::{Command, Names, asked_command};
+use crate::conversion::developed;
+use crate::derivation::{Derivation, derivation_in};
+use crate::judging::reported;
 use crate::{File, Refusal};
-use dk_io::{Inputs, ReadAll, read_all};
+use dk_io::{Gate, Inputs, ReadAll, read_all};
 use std::alloc::Global;
-
-/// The names of the two files.
-#[derive(Clone, Copy)]
-struct Names<'a> {
-    problem: &'a str,
-    trace: &'a str,
-}
-
-/// Whether a word names a file: one that begins with `-` and goes on does not.
-fn names_file(word: &str) -> bool
-    ensures { result ≡ is_file_name word.now }
-{
-    match word.as_bytes() {
-        [first, _, ..] => *first != b'-',
-        _ => true,
-    }
-}
-
-/// What the words ask for.
-fn command(words: &[String]) -> Option<Names<'_>>
-    ensures { option_map command_view result ≡ command_of (texts words.now) }
-{
-    match words {
-        [word, problem, trace] => {
-            let problem = problem.as_str();
-            let trace = trace.as_str();
-            if word.as_str() == "convert" && names_file(problem) && names_file(trace) {
-                Some(Names { problem, trace })
-            } else {
-                None
-            }
-        }
-        _ => None,
-    }
-}
+use std::thread::Threads;
 
 fn read_file<I: Inputs>(
     alloc: Global,
@@ -63,29 +32,85 @@ fn read_file<I: Inputs>(
     }
 }
 
-fn convert<I: Inputs>(alloc: Global, inputs: &mut I, names: Names<'_>) -> Result<Vec<u8>, Refusal>
+/// The derivation of the files of these names.
+fn derivation_of<I: Inputs>(
+    alloc: Global,
+    inputs: &mut I,
+    names: Names<'_>,
+) -> Result<Derivation, Refusal>
     ensures same { I.told inputs.new ≡ I.told inputs.old }
-    ensures answers { AnswersCommand (I.told inputs.old) (command_view names.entry)
-        (I.faults inputs.old) (I.faults inputs.new) (answer_view result) }
+    ensures answers { AnswersDerivation (I.told inputs.old) (names_view names.entry)
+        (I.faults inputs.old) (I.faults inputs.new) result }
+    ensures derived { IfOk result IsDerived }
 {
     let problem = read_file(alloc, inputs, names.problem, File::Problem)?;
     let trace = read_file(alloc, inputs, names.trace, File::Trace)?;
-    converted(alloc, &problem, &trace)
+    derivation_in(alloc, &problem, &trace)
+}
+
+fn convert<R: Threads + Sync, I: Inputs, G: Gate>(
+    rt: &R,
+    alloc: Global,
+    inputs: &mut I,
+    names: Names<'_>,
+    gate: &G,
+) -> Result<Vec<u8>, Refusal>
+    ensures same { I.told inputs.new ≡ I.told inputs.old }
+    ensures answers { AnswersCommand (I.told inputs.old) (convert (names_view names.entry))
+        (I.faults inputs.old) (I.faults inputs.new) (answer_view result) }
+{
+    let derivation = derivation_of(alloc, inputs, names)?;
+    developed(rt, alloc, &derivation, gate)
+}
+
+fn steps<R: Threads + Sync, I: Inputs, G: Gate>(
+    rt: &R,
+    alloc: Global,
+    inputs: &mut I,
+    names: Names<'_>,
+    gate: &G,
+) -> Result<Vec<u8>, Refusal>
+    ensures same { I.told inputs.new ≡ I.told inputs.old }
+    ensures answers { AnswersCommand (I.told inputs.old) (steps (names_view names.entry))
+        (I.faults inputs.old) (I.faults inputs.new) (answer_view result) }
+{
+    let derivation = derivation_of(alloc, inputs, names)?;
+    reported(rt, alloc, &derivation, gate)
+}
+
+/// The answer to a command.
+fn command_answer<R: Threads + Sync, I: Inputs, G: Gate>(
+    rt: &R,
+    alloc: Global,
+    inputs: &mut I,
+    command: Command<'_>,
+    gate: &G,
+) -> Result<Vec<u8>, Refusal>
+    ensures same { I.told inputs.new ≡ I.told inputs.old }
+    ensures answers { AnswersCommand (I.told inputs.old) (command_view command.entry)
+        (I.faults inputs.old) (I.faults inputs.new) (answer_view result) }
+{
+    match command {
+        Command::Convert(names) => convert(rt, alloc, inputs, names, gate),
+        Command::Steps(names) => steps(rt, alloc, inputs, names, gate),
+    }
 }
 
 /// The answer to the words, over these inputs.
-pub fn answer<I: Inputs>(
+pub fn answer<R: Threads + Sync, I: Inputs, G: Gate>(
+    rt: &R,
     alloc: Global,
     words: &[String],
     inputs: &mut I,
+    gate: &G,
 ) -> Result<Vec<u8>, Refusal>
     ensures same { I.told inputs.new ≡ I.told inputs.old }
     ensures left { command_of (texts words.now) ≡ None → I.left inputs.new ≡ I.left inputs.old }
     ensures answers { Answers (I.told inputs.old) (command_of (texts words.now))
         (I.faults inputs.old) (I.faults inputs.new) (answer_view result) }
 {
-    let Some(names) = command(words) else {
-        return Err(Refusal::Words);
-    };
-    convert(alloc, inputs, names)
+    match asked_command(words) {
+        Some(command) => command_answer(rt, alloc, inputs, command, gate),
+        None => Err(Refusal::Words),
+    }
 }

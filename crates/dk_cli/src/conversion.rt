@@ -1,125 +1,138 @@
-//! What the bytes of two files give: a text, or the first refusal.
-ghost use Rattle.std.specs.Prelude.{◌≡◌, IfOk};
-ghost use Rattle.dk_syntax.specs.Problems.{HasItsSymbols};
-ghost use Rattle.tstp_trace.specs.Names.{AreDistinct};
-ghost use Rattle.tstp_trace.specs.Traces.{names_of};
-ghost use Rattle.dk_cli.specs.Outcome.{IsConverted, IsProblemIn, IsText, IsTraceIn, problem_refusal, text_refusal, trace_refusal};
+//! What `convert` makes of a derivation: a text, or the first refusal.
+ghost use Rattle.std.specs.Prelude.{◌≡◌, map, Ok, IfOk};
+ghost use Rattle.flat_form.specs.Flat.{IsFlatProblem, IsFlatTrace, is_false};
+ghost use Rattle.dk_cli.specs.Conversion.{IsBuilt, IsDeveloped, IsFlatDeveloped, IsPlanIn, IsRootIn, IsWritten, barred, is_conjecture, names_conjecture, plan_refusal};
 ghost use Rattle.dk_cli.specs.Stages.{Answered, told_by};
-ghost use Rattle.dk_cli.specs.Steps.{answer_view};
+ghost use Rattle.dk_cli.specs.Steps.{IsDerived, answer_view, falsities};
 
-use crate::derivation::developed;
-use crate::refusal::{File, ItemFault, Refusal, StepFault};
-use dk_syntax::{Problem, Seq};
+use crate::derivation::Derivation;
+use crate::judging::judged;
+use crate::refusal::{File, Refusal};
+use derivation_graph::root_by_marks;
+use dk_io::Gate;
+use dk_syntax::{Formula, Named, NoMemory, Problem, Seq};
+use flat_development::development;
+use flat_form::{is_flat_problem, is_flat_trace};
+use flat_steps::{Instance, PlanFault, make_plan};
+use lp_text::print;
 use std::alloc::Global;
-use tptp_text::{Item, TptpFault, read_items};
-use tstp_trace::{ProblemFault, Trace, TraceFault, problem_from, trace_from};
+use std::thread::Threads;
+use tstp_trace::{StepSource, Trace};
 
-fn told_text(file: File, found: Result<Seq<Item>, TptpFault>) -> Result<Seq<Item>, Refusal>
-    ensures { result ≡ told_by (text_refusal file) found }
+fn is_falsity(formula: &Formula) -> bool
+    ensures { result ≡ is_false formula.now }
+{
+    matches!(formula, Formula::False)
+}
+
+/// Which steps have the formula `$false`: the root is looked for by this alone.
+fn marks(alloc: Global, trace: &Trace) -> Result<Seq<bool>, NoMemory>
+    ensures { IfOk result (λ all. all ≡ falsities trace.now) }
+{
+    let mut all = Seq::new(alloc);
+    for step in trace.steps.as_slice() {
+        all.push(is_falsity(&step.formula))?;
+    }
+    Ok(all)
+}
+
+/// Whether a step from that source is a leaf that names the conjecture.
+fn is_barred(conjecture: &Option<Named>, source: &StepSource) -> bool
+    ensures { result ≡ names_conjecture conjecture.now source.now }
+{
+    match (conjecture, source) {
+        (Some(conjecture), StepSource::Leaf(name)) => conjecture.name.same(name),
+        _ => false,
+    }
+}
+
+fn bars(alloc: Global, problem: &Problem, trace: &Trace) -> Result<Seq<bool>, NoMemory>
+    ensures { IfOk result (λ all. all ≡ barred problem.now trace.now) }
+{
+    let mut all = Seq::new(alloc);
+    for step in trace.steps.as_slice() {
+        all.push(is_barred(&problem.conjecture, &step.source))?;
+    }
+    Ok(all)
+}
+
+/// The root of a trace.
+fn root_in(alloc: Global, problem: &Problem, trace: &Trace) -> Result<u32, Refusal>
+    ensures { Answered (IsRootIn problem.now trace.now) result }
+{
+    let marks = marks(alloc, trace)?;
+    let barred = bars(alloc, problem, trace)?;
+    if u32::try_from(marks.len()).is_err() {
+        return Err(Refusal::Memory);
+    }
+    match root_by_marks(&marks, &barred) {
+        Some(step) => Ok(step),
+        None => Err(Refusal::NoRefutation),
+    }
+}
+
+/// Interim: whether what is asked for is built.
+fn built(problem: &Problem, trace: &Trace) -> Result<(), Refusal>
+    ensures { Answered (IsBuilt problem.now trace.now) result }
+{
+    if !is_flat_problem(problem) {
+        return Err(Refusal::Unbuilt(File::Problem));
+    }
+    if !is_flat_trace(trace) {
+        return Err(Refusal::Unbuilt(File::Trace));
+    }
+    Ok(())
+}
+
+fn told_plan(found: Result<Seq<Instance>, PlanFault>) -> Result<Seq<Instance>, Refusal>
+    ensures { result ≡ told_by plan_refusal found }
 {
     match found {
-        Ok(items) => Ok(items),
-        Err(TptpFault::NotTptp { at }) => Err(Refusal::NotTptp { file, at }),
-        Err(TptpFault::TooDeep { at }) => Err(Refusal::TooDeep { file, at }),
-        Err(TptpFault::TooMany { .. }) => Err(Refusal::TooManyItems(file)),
-        Err(TptpFault::Memory) => Err(Refusal::Memory),
+        Ok(instances) => Ok(instances),
+        Err(PlanFault::Wrong { .. }) => Err(Refusal::Unbuilt(File::Trace)),
+        Err(PlanFault::Memory) => Err(Refusal::Memory),
     }
 }
 
-fn items_in(alloc: Global, bytes: &[u8], file: File) -> Result<Seq<Item>, Refusal>
-    ensures { Answered (IsText file bytes.now) result }
+/// The text of the development of these instances.
+fn written(alloc: Global, problem: &Problem, instances: &Seq<Instance>) -> Result<Vec<u8>, Refusal>
+    ensures { Answered (IsWritten problem.now instances.now) (answer_view result) }
 {
-    told_text(file, read_items(alloc, bytes))
-}
-
-fn problem_told(fault: ProblemFault) -> Refusal
-    ensures { result ≡ problem_refusal fault }
-{
-    match fault {
-        ProblemFault::Outside { item, kind } => Refusal::Item {
-            item,
-            fault: ItemFault::Outside(kind),
-        },
-        ProblemFault::BadRole { item } => Refusal::Item {
-            item,
-            fault: ItemFault::BadRole,
-        },
-        ProblemFault::FreeVariable { item, name } => Refusal::Item {
-            item,
-            fault: ItemFault::FreeVariable(name),
-        },
-        ProblemFault::DuplicateName { item } => Refusal::Item {
-            item,
-            fault: ItemFault::DuplicateName,
-        },
-        ProblemFault::TwoConjectures { item } => Refusal::Item {
-            item,
-            fault: ItemFault::SecondConjecture,
-        },
-        ProblemFault::Memory => Refusal::Memory,
+    let Ok(made) = development(alloc, problem, instances) else {
+        return Err(Refusal::Memory);
+    };
+    match print(alloc, &made) {
+        Ok(text) => Ok(text),
+        Err(_) => Err(Refusal::Memory),
     }
 }
 
-fn trace_told(fault: TraceFault) -> Refusal
-    ensures { result ≡ trace_refusal fault }
+/// The text of the flat part, which is built.
+fn flat_developed(alloc: Global, derivation: &Derivation, root: u32) -> Result<Vec<u8>, Refusal>
+    requires derived { IsDerived derivation.now }
+    requires root { IsRootIn derivation.now.problem derivation.now.trace (Ok root) }
+    ensures { Answered (IsFlatDeveloped derivation.now.problem derivation.now.trace
+        derivation.now.graph root) (answer_view result) }
 {
-    match fault {
-        TraceFault::Outside { step, kind } => Refusal::Step {
-            step,
-            fault: StepFault::Outside(kind),
-        },
-        TraceFault::DuplicateName { step } => Refusal::Step {
-            step,
-            fault: StepFault::DuplicateName,
-        },
-        TraceFault::Unsupported { step, kind } => Refusal::Step {
-            step,
-            fault: StepFault::Unsupported(kind),
-        },
-        TraceFault::Memory => Refusal::Memory,
-    }
+    let problem = &derivation.problem;
+    let trace = &derivation.trace;
+    built(problem, trace)?;
+    let graph = &derivation.graph;
+    let instances = told_plan(make_plan(alloc, problem, trace, graph, root))?;
+    written(alloc, problem, &instances)
 }
 
-fn told_problem(found: Result<Problem, ProblemFault>) -> Result<Problem, Refusal>
-    ensures { result ≡ told_by problem_refusal found }
+/// The text that a trace proves of a problem, or the first refusal.
+pub fn developed<R: Threads + Sync, G: Gate>(
+    rt: &R,
+    alloc: Global,
+    derivation: &Derivation,
+    gate: &G,
+) -> Result<Vec<u8>, Refusal>
+    requires { IsDerived derivation.now }
+    ensures { Answered (IsDeveloped derivation.now) (answer_view result) }
 {
-    match found {
-        Ok(problem) => Ok(problem),
-        Err(fault) => Err(problem_told(fault)),
-    }
-}
-
-fn told_trace(found: Result<Trace, TraceFault>) -> Result<Trace, Refusal>
-    ensures { result ≡ told_by trace_refusal found }
-{
-    match found {
-        Ok(trace) => Ok(trace),
-        Err(fault) => Err(trace_told(fault)),
-    }
-}
-
-/// The problem that the bytes of its file are.
-fn problem_in(alloc: Global, bytes: &[u8]) -> Result<Problem, Refusal>
-    ensures { Answered (IsProblemIn bytes.now) result }
-{
-    let items = items_in(alloc, bytes, File::Problem)?;
-    told_problem(problem_from(alloc, items))
-}
-
-/// The trace that the bytes of its file are.
-fn trace_in(alloc: Global, bytes: &[u8]) -> Result<Trace, Refusal>
-    ensures answer { Answered (IsTraceIn bytes.now) result }
-    ensures names { IfOk result (λ trace. AreDistinct (names_of trace)) }
-{
-    let items = items_in(alloc, bytes, File::Trace)?;
-    told_trace(trace_from(alloc, items))
-}
-
-/// The text that the trace in these bytes proves of the problem in those, or the first refusal.
-pub fn converted(alloc: Global, problem: &[u8], trace: &[u8]) -> Result<Vec<u8>, Refusal>
-    ensures { Answered (IsConverted problem.now trace.now) (answer_view result) }
-{
-    let problem = problem_in(alloc, problem)?;
-    let trace = trace_in(alloc, trace)?;
-    developed(alloc, &problem, &trace)
+    let root = root_in(alloc, &derivation.problem, &derivation.trace)?;
+    judged(rt, alloc, derivation, gate)?;
+    flat_developed(alloc, derivation, root)
 }

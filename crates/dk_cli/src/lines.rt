@@ -1,14 +1,16 @@
 //! The parts of lines that tell what is at fault.
 ghost use Rattle.std.specs.Prelude.{◌≡◌, ◌++◌, IfOk, string_bytes, codes, decimal};
-ghost use Rattle.tptp_text.specs.Printed.{printed_item_name, printed_name};
-ghost use Rattle.dk_cli.specs.Refusals.{in_line, item_fault_text, kind_word, reason_text, step_fault_text, unsupported_word};
+ghost use Rattle.extract.specs.Words.{limit_word, reason_text};
+ghost use Rattle.tptp_text.specs.Printed.{printed_item_name};
+ghost use Rattle.dk_cli.specs.Refusals.{in_line, item_fault_text, kind_word, step_fault_text, unsupported_word};
 
 use crate::refusal::{ItemFault, StepFault};
 use dk_syntax::{Name, NoMemory};
-use flat_steps::Reason;
+use extract::{limit_word, reason_text};
 use itoa::Buffer;
 use std::alloc::{AllocError, Global};
-use tptp_text::{OutsideKind, item_name_text, name_text};
+use step_check::{Limit, Reason};
+use tptp_text::{OutsideKind, item_name_text};
 use tstp_trace::Unsupported;
 
 /// `FRONT NUMBER: WHY`.
@@ -82,14 +84,6 @@ fn unsupported_line(alloc: Global, why: Unsupported) -> Result<String, AllocErro
     Ok(line)
 }
 
-fn alien_line(alloc: Global, name: &Name) -> Result<String, AllocError>
-    ensures { IfOk result (λ line. string_bytes line ≡ codes "alien symbol: "
-        ++ in_line (printed_name name.now)) }
-{
-    let text = name_text(alloc, name).map_err(|_: NoMemory| AllocError)?;
-    line_with(alloc, "alien symbol: ", &text)
-}
-
 fn missing_line(alloc: Global, name: &Name) -> Result<String, AllocError>
     ensures { IfOk result (λ line. string_bytes line ≡ codes "missing parent: "
         ++ in_line (printed_item_name name.now)) }
@@ -111,23 +105,19 @@ pub fn item_fault_line(alloc: Global, fault: &ItemFault) -> Result<String, Alloc
     }
 }
 
-fn reason_line(alloc: Global, reason: &Reason) -> Result<String, AllocError>
-    ensures { IfOk result (λ line. string_bytes line ≡ reason_text reason.now) }
+fn wrong_line(alloc: Global, reason: &Reason) -> Result<String, AllocError>
+    ensures { IfOk result (λ line. string_bytes line ≡ codes "wrong: "
+        ++ in_line (reason_text reason.now)) }
 {
-    match reason {
-        Reason::UnknownLeaf => String::from_str(alloc, "unknown leaf"),
-        Reason::AlteredLeaf => String::from_str(alloc, "altered leaf"),
-        Reason::AlienSymbol(name) => alien_line(alloc, name),
-        Reason::Unjustified => String::from_str(alloc, "unjustified clause 0"),
-    }
+    let text = reason_text(alloc, reason).map_err(|_: NoMemory| AllocError)?;
+    line_with(alloc, "wrong: ", &text)
 }
 
-fn wrong_line(alloc: Global, reason: &Reason) -> Result<String, AllocError>
-    ensures { IfOk result (λ line. string_bytes line ≡ codes "wrong: " ++ reason_text reason.now) }
+fn over_line(alloc: Global, limit: Limit) -> Result<String, AllocError>
+    ensures { IfOk result (λ line. string_bytes line ≡ codes "over: " ++ limit_word limit) }
 {
-    let why = reason_line(alloc, reason)?;
-    let mut line = String::from_str(alloc, "wrong: ")?;
-    line.push_str(why.as_str())?;
+    let mut line = String::from_str(alloc, "over: ")?;
+    line.push_str(limit_word(limit))?;
     Ok(line)
 }
 
@@ -142,5 +132,6 @@ pub fn step_fault_line(alloc: Global, fault: &StepFault) -> Result<String, Alloc
         StepFault::MissingParent(name) => missing_line(alloc, name),
         StepFault::Cycle => String::from_str(alloc, "cycle"),
         StepFault::Wrong(reason) => wrong_line(alloc, reason),
+        StepFault::Over(limit) => over_line(alloc, *limit),
     }
 }

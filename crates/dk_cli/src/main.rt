@@ -1,5 +1,5 @@
-//! The program: reads a problem and a refutation of it and writes a development whose `goal` has the
-//! problem's type.
+//! The program: reads a problem and a refutation of it, and writes a development whose `goal` has the
+//! problem's type (`convert`), or the verdict on each step (`steps`).
 //!
 //! `run` does all of it, over words, inputs, a sink and notes that its caller gives; `main` gives the
 //! real ones. What it answers is `IsOutcome` (specs/Outcome), how it is delivered `Delivers`
@@ -8,9 +8,12 @@
 #![tactic(auto)]
 
 mod answer;
+mod command;
 mod conversion;
 mod derivation;
+mod judging;
 mod lines;
+mod reading;
 mod refusal;
 mod run;
 

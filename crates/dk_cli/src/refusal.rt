@@ -1,12 +1,12 @@
 //! Why nothing, or not all, was written, and the status and the line that say so.
 ghost use Rattle.std.specs.Prelude.{◌≡◌, ◌++◌, IfOk, IfSome, IfNone, string_bytes, codes, decimal};
-ghost use Rattle.dk_cli.specs.Refusals.{status_of, line_of, file_word, HasNumber};
+ghost use Rattle.dk_cli.specs.Refusals.{step_status, status_of, line_of, file_word, HasNumber};
 
 use crate::lines::{item_fault_line, numbered_line, step_fault_line};
 use dk_syntax::{Name, NoMemory};
-use flat_steps::Reason;
 use itoa::Buffer;
 use std::alloc::{AllocError, Global};
+use step_check::{Limit, Reason};
 use tptp_text::OutsideKind;
 use tstp_trace::Unsupported;
 
@@ -53,6 +53,7 @@ pub enum StepFault {
     MissingParent(Name),
     Cycle,
     Wrong(Reason),
+    Over(Limit),
 }
 
 /// The refusals, in the order in which they are looked for.
@@ -95,6 +96,17 @@ impl File {
     }
 }
 
+impl StepFault {
+    fn status(&self) -> Status
+        ensures { result ≡ step_status self.now }
+    {
+        match self {
+            StepFault::Over(_) => Status::Limit,
+            _ => Status::Input,
+        }
+    }
+}
+
 impl Refusal {
     pub fn status(&self) -> Status
         ensures { result ≡ status_of self.now }
@@ -106,7 +118,8 @@ impl Refusal {
             Refusal::TooLong(_) | Refusal::TooDeep { .. } | Refusal::TooManyItems(_) => {
                 Status::Limit
             }
-            Refusal::Item { .. } | Refusal::Step { .. } | Refusal::NoRefutation => Status::Input,
+            Refusal::Item { .. } | Refusal::NoRefutation => Status::Input,
+            Refusal::Step { fault, .. } => fault.status(),
             Refusal::Unbuilt(_) => Status::Unbuilt,
             Refusal::WriteFault => Status::WriteFault,
             Refusal::Memory => Status::Memory,

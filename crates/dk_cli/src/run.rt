@@ -1,11 +1,12 @@
 //! The top call: an answer, written or told.
 ghost use Rattle.std.specs.Prelude.{◌≡◌, ◌<◌, ◌⊎◌, ◌↔◌, None, Some, IfSome};
 ghost use Rattle.dk_io.specs.Causes.{Rose};
-ghost use Rattle.dk_cli.specs.Commands.{texts, command_of};
+ghost use Rattle.dk_cli.specs.Commands.{Names, texts, command_of, convert, steps};
 ghost use Rattle.dk_cli.specs.Delivery.{Delivers, IsRefused, change};
 ghost use Rattle.dk_cli.specs.Headline.{CanCome, CarriesOutEach, DoesOutcome, IsRun, Lacks, NotesByStatus, WritesByStatus};
 ghost use Rattle.dk_cli.specs.Proof.{WritesProof};
 ghost use Rattle.dk_cli.specs.Refusals.{HasNumber};
+ghost use Rattle.dk_cli.specs.StepReport.{WritesLines};
 ghost use Rattle.dk_cli.specs.Steps.{answer_view};
 
 use crate::answer::answer;
@@ -60,12 +61,14 @@ fn deliver<K: Sink, N: Notes>(
     }
 }
 
-fn run_answered<I: Inputs, K: Sink, N: Notes>(
+fn run_answered<R: Threads + Sync, I: Inputs, K: Sink, N: Notes, G: Gate>(
+    rt: &R,
     alloc: Global,
     words: &[String],
     inputs: &mut I,
     out: &mut K,
     notes: &mut N,
+    gate: &G,
 ) -> Status
     ensures same { I.told inputs.new ≡ I.told inputs.old }
     ensures left { command_of (texts words.now) ≡ None → I.left inputs.new ≡ I.left inputs.old }
@@ -74,21 +77,21 @@ fn run_answered<I: Inputs, K: Sink, N: Notes>(
         (change (K.kept out.old) (K.kept out.new) (K.faults out.old) (K.faults out.new))
         (change (N.kept notes.old) (N.kept notes.new) (N.faults notes.old) (N.faults notes.new)) }
 {
-    let found = answer(alloc, words, inputs);
+    let found = answer(rt, alloc, words, inputs, gate);
     deliver(alloc, found, out, notes)
 }
 
-/// Does all that the program does: reads the files that the words name, writes their development to
+/// Does all that the program does: reads the files that the words name, writes the text of the command to
 /// `out` or one line to `notes`, and answers the status. The words are those of the command line
-/// without the program's name. The gate is for workers, which do not come yet.
+/// without the program's name. The steps are judged in four pieces, before each of which the gate is passed once.
 pub fn run<R: Threads + Sync, I: Inputs, K: Sink, N: Notes, G: Gate>(
-    _rt: &R,
+    rt: &R,
     alloc: Global,
     words: &[String],
     inputs: &mut I,
     out: &mut K,
     notes: &mut N,
-    _gate: &G,
+    gate: &G,
 ) -> Status
     ensures told { I.told inputs.new ≡ I.told inputs.old }
     ensures run { IsRun (I.told inputs.old) (command_of (texts words.now)) (I.faults inputs.old)
@@ -119,10 +122,15 @@ pub fn run<R: Threads + Sync, I: Inputs, K: Sink, N: Notes, G: Gate>(
     ensures write_only { result ≡ Status.WriteFault → Rose (K.faults out.old) (K.faults out.new) }
     ensures write_rose { K.faults out.old < K.faults out.new → result ≡ Status.WriteFault }
 
-    // With status 0 what was written is a proof of the problem, by the typing rules.
-    ensures proof { result ≡ Status.Done → IfSome (command_of (texts words.now)) (λ command.
-        WritesProof (I.told inputs.old) command
-        (change (K.kept out.old) (K.kept out.new) (K.faults out.old) (K.faults out.new))) }
+    // With status 0 what `convert` wrote is a proof of the problem, by the typing rules.
+    ensures proof { (names : Names) → command_of (texts words.now) ≡ Some (convert names)
+        → result ≡ Status.Done → WritesProof (I.told inputs.old) names
+        (change (K.kept out.old) (K.kept out.new) (K.faults out.old) (K.faults out.new)) }
+
+    // With status 0 what `steps` wrote are the lines of the verdicts on the steps, right or wrong.
+    ensures lines { (names : Names) → command_of (texts words.now) ≡ Some (steps names)
+        → result ≡ Status.Done → WritesLines (I.told inputs.old) names
+        (change (K.kept out.old) (K.kept out.new) (K.faults out.old) (K.faults out.new)) }
 
     // Each status, text and line comes exactly where it is the outcome's.
     ensures outcome { IfSome (command_of (texts words.now)) (λ command.
@@ -135,5 +143,5 @@ pub fn run<R: Threads + Sync, I: Inputs, K: Sink, N: Notes, G: Gate>(
         (change (K.kept out.old) (K.kept out.new) (K.faults out.old) (K.faults out.new))
         (change (N.kept notes.old) (N.kept notes.new) (N.faults notes.old) (N.faults notes.new))) }
 {
-    run_answered(alloc, words, inputs, out, notes)
+    run_answered(rt, alloc, words, inputs, out, notes, gate)
 }

@@ -158,16 +158,12 @@ fn wrong_steps_are_named(rt: HostRuntime) -> Result<(), Fail> {
         ),
         (
             PROBLEM,
-            [
-                "cnf(a1,axiom,p(X),file(x,a1)).\n",
-                END,
-                "cnf(a2,axiom,~p).\n",
-            ],
+            [LEAVES, END, "fof(d,plain,p&p,inference(r,[],[a1])).\n"],
             Status::Unbuilt,
             "not built: trace\n",
         ),
         (
-            "fof(a,axiom,![X]:p(X)).\n",
+            "cnf(a1,axiom,p).\ncnf(a2,axiom,~p).\ncnf(b,axiom,r(X)).\n",
             [LEAVES, END, ""],
             Status::Unbuilt,
             "not built: problem\n",
@@ -183,6 +179,30 @@ fn wrong_steps_are_named(rt: HostRuntime) -> Result<(), Fail> {
         let trace = joined(rt.alloc(), &parts)?;
         assert!(rt; is_refused(&rt, problem, trace.as_str(), status, line)?);
     }
+    Ok(())
+}
+
+#[test]
+fn steps_are_listed_right_or_wrong(rt: HostRuntime) -> Result<(), Fail> {
+    let trace = joined(
+        rt.alloc(),
+        &[
+            LEAVES,
+            "cnf('C c',plain,q,inference(r,[status(thm)],[a1,a2])).\n",
+            "cnf(7,plain,$false,inference(r,[status(thm)],[a1,a2])).\n",
+            "cnf(g,axiom,p,file(x,zz)).\n",
+        ],
+    )?;
+    let bytes = trace.as_str().as_bytes();
+    let found = run_on(&rt, &["steps", "p", "t"], PROBLEM, bytes, SOUND)?;
+    let lines =
+        "1 a1 leaf\n2 a2 leaf\n3 'C c' wrong: alien symbol: q\n4 7 clausal\n5 g wrong: unknown leaf\n";
+    assert!(rt; found.status == Status::Done && found.notes.is_empty());
+    assert!(rt; found.out.as_slice() == lines.as_bytes());
+
+    // No root is asked for.
+    let found = run_on(&rt, &["steps", "p", "t"], PROBLEM, LEAVES.as_bytes(), SOUND)?;
+    assert!(rt; found.out.as_slice() == "1 a1 leaf\n2 a2 leaf\n".as_bytes());
     Ok(())
 }
 

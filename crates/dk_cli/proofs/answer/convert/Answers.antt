@@ -1,30 +1,27 @@
-use Rattle.std.proofs.Common.{Err, ap, subst, sym, ◌∙◌}
+use Rattle.std.proofs.Common.{Err, ap, sym, ◌∙◌}
 use Rattle.std.proofs.lemmas.Result.{err_from_is_err_and}
-use Rattle.dk_cli.specs.Outcome.{IsConverted}
-use Rattle.dk_cli.specs.Stages.{Answered}
-use Rattle.dk_cli.specs.Steps.{answer_view, command_view}
-use Rattle.dk_cli.proofs.Unread.{converted_ends, problem_ends, trace_ends}
+use Rattle.dk_cli.specs.Answer.{LacksOneOf}
+use Rattle.dk_cli.specs.Commands.{convert, files_of_names}
+use Rattle.dk_cli.specs.Conversion.{IsDeveloped}
+use Rattle.dk_cli.specs.Derivations.{IsDerivationAt}
+use Rattle.dk_cli.specs.Steps.{answer_view, names_view}
+use Rattle.dk_cli.proofs.Continued.{answers_command, goes_on_told, stops_told}
+use Rattle.dk_cli.proofs.ConversionLaws.{developed_later}
 use Rattle.dk_cli.proofs.answer.convert.Goals as goal
 
-pub returns-in_err-problem-clause-answers : goal.returns-in_err-problem-clause-answers
-returns-in_err-problem-clause-answers g c =
+pub returns-in_err-derivation-clause-answers : goal.returns-in_err-derivation-clause-answers
+returns-in_err-derivation-clause-answers g c =
+    let names = names_view c.args.names in
+    let told = g.I.Inputs.told c.args.inputs.now in
     let end = err_from_is_err_and c.from_residual.result c.from_residual.ensures.1 in
-    problem_ends (g.I.Inputs.told c.args.inputs.now) (command_view c.args.names) _ _ c.read_file.result c.from_residual.result end.0
-    (c.in_err-problem.was ∙ ap Err (sym end.2)) end.1 c.read_file.ensures.reads
-
-pub returns-in_err-trace-clause-answers : goal.returns-in_err-trace-clause-answers
-returns-in_err-trace-clause-answers g c =
-    let end = err_from_is_err_and c.from_residual-in_err-trace.result c.from_residual-in_err-trace.ensures.1 in
-    trace_ends (g.I.Inputs.told c.args.inputs.now) (g.I.Inputs.told c.read_file.new.inputs) (command_view c.args.names) _ _ _
-    c.read_file.result c.read_file-2.result c.from_residual-in_err-trace.result c.in_ok-problem.problem end.0
-    c.in_ok-problem.was c.read_file.ensures.reads c.read_file.ensures.same
-    (c.in_err-trace.was ∙ ap Err (sym end.2)) end.1 c.read_file-2.ensures.reads
+    answers_command told (convert names) _ _ (answer_view c.from_residual.result)
+    (stops_told told (LacksOneOf told (files_of_names names)) (IsDerivationAt names) IsDeveloped _ _ c.derivation_of.result end.0 (answer_view c.from_residual.result)
+    (c.in_err-derivation.was ∙ ap Err (sym end.2)) (ap answer_view end.1) c.derivation_of.ensures.answers)
 
 pub returns-clause-answers : goal.returns-clause-answers
 returns-clause-answers g c =
-    converted_ends (g.I.Inputs.told c.args.inputs.now) (g.I.Inputs.told c.read_file.new.inputs) (command_view c.args.names) _ _ _
-    c.read_file.result c.read_file-2.result c.in_ok-problem.problem c.in_ok-trace.trace (answer_view c.converted.result)
-    c.in_ok-problem.was c.read_file.ensures.reads c.read_file.ensures.same
-    c.in_ok-trace.was c.read_file-2.ensures.reads
-    (subst (λ trace. Answered (IsConverted c.in_ok-problem.problem.items trace) (answer_view c.converted.result)) c.deref-2.ensures.value
-    (subst (λ problem. Answered (IsConverted problem c.deref-2.result.now) (answer_view c.converted.result)) c.deref.ensures.value c.converted.ensures))
+    let names = names_view c.args.names in
+    let told = g.I.Inputs.told c.args.inputs.now in
+    answers_command told (convert names) _ _ (answer_view c.developed.result)
+    (goes_on_told told (LacksOneOf told (files_of_names names)) (IsDerivationAt names) IsDeveloped _ _ c.derivation_of.result c.in_ok-derivation.derivation (answer_view c.developed.result)
+    c.in_ok-derivation.was c.derivation_of.ensures.answers (developed_later c.in_ok-derivation.derivation) c.developed.ensures)

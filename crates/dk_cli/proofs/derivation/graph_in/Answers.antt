@@ -1,6 +1,6 @@
 use Rattle.std.proofs.Common.{subst, sym}
 use Rattle.derivation_graph.specs.Graphs.{AreDistinct, IsGraphAnswer, names_of}
-use Rattle.dk_cli.specs.Outcome.{IsGraphIn}
+use Rattle.dk_cli.specs.Derivations.{IsGraphIn}
 use Rattle.dk_cli.proofs.Derived.{node_names}
 use Rattle.dk_cli.proofs.StageLaws.{answered}
 use Rattle.dk_cli.proofs.derivation.graph_in.Goals as goal

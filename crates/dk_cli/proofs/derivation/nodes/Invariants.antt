@@ -1,5 +1,5 @@
 use Rattle.std.proofs.Common.{◌≡◌, map, take}
-use Rattle.dk_cli.specs.Outcome.{node_of}
+use Rattle.step_check.specs.Steps.{node_of}
 use Rattle.dk_cli.proofs.derivation.nodes.Given as goal
 
 abbrev pub invariant-loop-step : goal.invariant-loop-step

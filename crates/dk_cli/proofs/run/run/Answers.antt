@@ -1,5 +1,6 @@
 use Rattle.dk_cli.proofs.Carried.{can_come, notes_by, read_lacks, read_only, read_rose, some_carries, some_does, words_count, words_if, words_only, writes_by}
 use Rattle.dk_cli.proofs.Proved.{writes_proof}
+use Rattle.dk_cli.proofs.Reported.{writes_lines}
 use Rattle.dk_cli.proofs.run.run.Goals as goal
 
 pub returns-clause-statuses : goal.returns-clause-statuses
@@ -39,7 +40,10 @@ pub returns-clause-read_lacks : goal.returns-clause-read_lacks
 returns-clause-read_lacks g c = λ lacks. let run = c.run_answered.ensures.run in read_lacks _ _ _ _ run.answer _ _ _ run.answers run.delivers lacks
 
 pub returns-clause-proof : goal.returns-clause-proof
-returns-clause-proof g c = λ done. let run = c.run_answered.ensures.run in writes_proof _ _ _ _ run.answer _ _ _ run.answers run.delivers done
+returns-clause-proof g c = λ names asked done. let run = c.run_answered.ensures.run in writes_proof _ _ _ _ run.answer _ _ _ run.answers run.delivers names asked done
 
 pub returns-clause-read_only : goal.returns-clause-read_only
 returns-clause-read_only g c = λ fault. let run = c.run_answered.ensures.run in read_only _ _ _ _ run.answer _ _ _ run.answers run.delivers fault
+
+pub returns-clause-lines : goal.returns-clause-lines
+returns-clause-lines g c = λ names asked done. let run = c.run_answered.ensures.run in writes_lines _ _ _ _ run.answer _ _ _ run.answers run.delivers names asked done

@@ -1,6 +1,6 @@
-use Rattle.dk_cli.specs.Outcome.{IsText}
+use Rattle.dk_cli.specs.Derivations.{IsText}
 use Rattle.dk_cli.proofs.StageLaws.{answered}
-use Rattle.dk_cli.proofs.conversion.items_in.Goals as goal
+use Rattle.dk_cli.proofs.reading.items_in.Goals as goal
 
 pub returns : goal.returns
 returns c = answered (IsText c.args.file c.args.bytes.now) c.told_text.result (c.read_items.result, c.read_items.ensures.answer, c.told_text.ensures)

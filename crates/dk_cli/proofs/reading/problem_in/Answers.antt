@@ -1,11 +1,11 @@
 use Rattle.std.proofs.Common.{Err, ap, sym, ◌∙◌}
 use Rattle.std.proofs.lemmas.Result.{err_from_is_err_and}
 use Rattle.tstp_trace.specs.Problems.{IsProblemAnswer}
-use Rattle.dk_cli.specs.Outcome.{IsText, problem_refusal}
+use Rattle.dk_cli.specs.Derivations.{IsText, problem_refusal}
 use Rattle.dk_cli.specs.Stages.{IsToldBy}
 use Rattle.dk_cli.specs.declared.refusal.File.TheVariants as file
 use Rattle.dk_cli.proofs.StageLaws.{answered, goes_on, stops}
-use Rattle.dk_cli.proofs.conversion.problem_in.Goals as goal
+use Rattle.dk_cli.proofs.reading.problem_in.Goals as goal
 
 pub returns-in_err-items : goal.returns-in_err-items
 returns-in_err-items c =

@@ -1,14 +1,14 @@
 use Rattle.std.proofs.Common.{Err, ap, sym, ◌∙◌}
 use Rattle.std.proofs.lemmas.Result.{err_from_is_err_and}
 use Rattle.tstp_trace.specs.Names.{AreDistinct}
-use Rattle.tstp_trace.specs.Traces.{IsTraceAnswer, names_of}
+use Rattle.tstp_trace.specs.Traces.{HaveFitParents, IsTraceAnswer, names_of}
 use Rattle.tstp_trace.specs.declared.Trace.{Trace}
-use Rattle.dk_cli.specs.Outcome.{IsText, trace_refusal}
+use Rattle.dk_cli.specs.Derivations.{IsText, trace_refusal}
 use Rattle.dk_cli.specs.Stages.{IsToldBy}
 use Rattle.dk_cli.specs.declared.refusal.File.TheVariants as file
 use Rattle.dk_cli.proofs.Derived.{told_keeps}
 use Rattle.dk_cli.proofs.StageLaws.{answered, goes_on, stops}
-use Rattle.dk_cli.proofs.conversion.trace_in.Goals as goal
+use Rattle.dk_cli.proofs.reading.trace_in.Goals as goal
 
 pub returns-in_err-items-clause-answer : goal.returns-in_err-items-clause-answer
 returns-in_err-items-clause-answer c =
@@ -24,3 +24,6 @@ returns-clause-answer c =
 
 pub returns-clause-names : goal.returns-clause-names
 returns-clause-names c = told_keeps (λ (trace : Trace). AreDistinct (names_of trace)) trace_refusal c.trace_from.result c.told_trace.result c.told_trace.ensures c.trace_from.ensures.names
+
+pub returns-clause-parents : goal.returns-clause-parents
+returns-clause-parents c = told_keeps (λ (trace : Trace). HaveFitParents trace.steps) trace_refusal c.trace_from.result c.told_trace.result c.told_trace.ensures c.trace_from.ensures.parents

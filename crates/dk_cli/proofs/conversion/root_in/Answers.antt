@@ -1,8 +1,8 @@
 use Rattle.std.proofs.Common.{None, Some, refl, subst}
 use Rattle.derivation_graph.specs.Roots.{IsRootAnswer}
-use Rattle.dk_cli.specs.Outcome.{barred, formulas_of}
+use Rattle.dk_cli.specs.Conversion.{barred, formulas_of}
 use Rattle.dk_cli.proofs.RootMarks.{rooted}
-use Rattle.dk_cli.proofs.derivation.root_in.Goals as goal
+use Rattle.dk_cli.proofs.conversion.root_in.Goals as goal
 
 pub returns-in-Some : goal.returns-in-Some
 returns-in-Some c =

@@ -1,0 +1,54 @@
+-- What no conversion refuses.
+use Rattle.std.proofs.Common.{ℕ, List, Ok, Err, None, Some, sym, subst}
+use Rattle.std.specs.declared.result.Result.{Result}
+use Rattle.derivation_graph.specs.declared.Graph.{Graph}
+use Rattle.dk_syntax.specs.declared.Problem.{Problem}
+use Rattle.flat_steps.specs.declared.Instance.{Instance}
+use Rattle.flat_steps.specs.declared.PlanFault.{PlanFault}
+use Rattle.flat_steps.specs.declared.PlanFault.TheVariants as plan_fault
+use Rattle.tstp_trace.specs.declared.Trace.{Trace}
+use Rattle.dk_cli.specs.Conversion.{ArePlanned, IsBuilt, IsDeveloped, IsFlatDeveloped, IsPlanIn, IsRightDeveloped, IsRootIn, IsWritten, plan_refusal}
+use Rattle.dk_cli.specs.Judging.{IsJudged}
+use Rattle.dk_cli.specs.Stages.{Follows}
+use Rattle.dk_cli.specs.declared.derivation.Derivation.{Derivation}
+use Rattle.dk_cli.specs.declared.refusal.Refusal.{Refusal}
+use Rattle.dk_cli.specs.declared.refusal.Refusal.TheVariants as refusal
+use Rattle.dk_cli.proofs.DerivationLaws.{IsLater}
+use Rattle.dk_cli.proofs.JudgingLaws.{judged_later}
+use Rattle.dk_cli.proofs.StageLaws.{Only, only_follows, only_told}
+
+plan_later : (fault : PlanFault) → IsLater (plan_refusal fault)
+plan_later (plan_fault.Wrong step reason) = tt
+plan_later plan_fault.Memory = tt
+
+root_later : (problem : Problem) (trace : Trace) (answer : Result ℕ Refusal) → IsRootIn problem trace answer → Only IsLater answer
+root_later problem trace answer (None, h, e) = subst (Only IsLater) (sym e) tt
+root_later problem trace answer (Some root, h, e) = subst (Only IsLater) (sym e) tt
+
+built_later : (problem : Problem) (trace : Trace) (answer : Result Unit Refusal) → IsBuilt problem trace answer → Only IsLater answer
+built_later problem trace (Ok nothing) h = tt
+built_later problem trace (Err (refusal.Unbuilt which)) h = tt
+built_later problem trace (Err other) h = absurd h
+
+written_later : (problem : Problem) (instances : List Instance) (answer : Result (List ℕ) Refusal) → IsWritten problem instances answer → Only IsLater answer
+written_later problem instances answer e = subst (Only IsLater) (sym e) tt
+
+module _ (problem : Problem) (trace : Trace) where
+  planned_later : (graph : Graph) (root : ℕ) (answer : Result (List ℕ) Refusal) → Follows (IsPlanIn problem trace graph root) (IsWritten problem) answer → Only IsLater answer
+  planned_later graph root =
+      only_follows IsLater (IsPlanIn problem trace graph root) (IsWritten problem)
+      (only_told IsLater plan_refusal (ArePlanned problem trace graph root) plan_later)
+      (written_later problem)
+
+  flat_later : (graph : Graph) (root : ℕ) (answer : Result (List ℕ) Refusal) → IsFlatDeveloped problem trace graph root answer → Only IsLater answer
+  flat_later graph root =
+      only_follows IsLater (IsBuilt problem trace) (λ nothing. Follows (IsPlanIn problem trace graph root) (IsWritten problem))
+      (built_later problem trace)
+      (λ nothing. planned_later graph root)
+
+right_developed_later : (d : Derivation) (root : ℕ) (answer : Result (List ℕ) Refusal) → IsRightDeveloped d root answer → Only IsLater answer
+right_developed_later d root =
+    only_follows IsLater (IsJudged d) (λ nothing. IsFlatDeveloped d.problem d.trace d.graph root) (judged_later d) (λ nothing. flat_later d.problem d.trace d.graph root)
+
+pub developed_later : (d : Derivation) (answer : Result (List ℕ) Refusal) → IsDeveloped d answer → Only IsLater answer
+developed_later d = only_follows IsLater (IsRootIn d.problem d.trace) (IsRightDeveloped d) (root_later d.problem d.trace) (right_developed_later d)

@@ -6,8 +6,6 @@
 #[cfg(test)]
 mod chains;
 #[cfg(test)]
-mod composing;
-#[cfg(test)]
 mod forms;
 #[cfg(test)]
 mod freshness;

@@ -7,6 +7,8 @@
 //! Laws for the crates above stand in `laws` (each one's contract is a law) and in these files of `proofs/`:
 //! `SignatureViews`, `SymbolLaws` and `GoalViews` (the signature, the symbols and the type of `goal` of a
 //! problem), `ProblemLaws` (the signature has the prelude), `BodyTypes` and `LevelLaws` (the body).
+//!
+//! `proofs/BuiltLaws`, on bodies as they are built, is for the crate above too.
 #![tactic(auto)]
 
 pub mod laws;

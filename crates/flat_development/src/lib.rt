@@ -11,6 +11,8 @@
 //! The cost is linear in the size of the development, in which a disjunction of n literals is written out up
 //! to n times where a proof goes through it. Chains of hypotheses and of instances are put together by loops,
 //! in a fixed depth of stack; a formula is gone through by recursion, as deep as the formula is.
+//!
+//! Laws for the crates above stand in `proofs/Consumed`.
 #![tactic(auto)]
 
 mod arguments;

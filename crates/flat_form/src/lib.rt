@@ -7,6 +7,8 @@
 //!
 //! A test takes no memory. It and the list of literals take time linear in the formulas; a test ends at the
 //! 65th literal. Both go down a formula by recursion.
+//!
+//! Laws for the crates above stand in `proofs/ClauseLaws`.
 #![tactic(auto, using(crate::proofs::Steps::flat_steps))]
 
 mod flat;

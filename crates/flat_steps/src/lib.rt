@@ -12,6 +12,8 @@
 //! Names and listed steps are looked up by walks over lists, so the cost is at most quadratic in the number of
 //! steps. A justification costs, for each pair of parents and each literal of the first, the product of the
 //! lengths of the clauses. The stack is as deep as a clause is long.
+//!
+//! Laws for the crates above stand in `proofs/OrderLaws` and `proofs/PlanLaws`.
 #![tactic(auto)]
 
 mod bases;

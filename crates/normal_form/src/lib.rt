@@ -24,8 +24,10 @@
 //! (what the definitions say of each kind of form), `proofs/FormLaws` (a form and its tree), `proofs/Shuffles` (numbered
 //! forms that differ by order and grouping), `proofs/Regroups` (their sorted forms are one), `proofs/Sorts` and
 //! `proofs/StableSorts` (sorting, ties kept in place), `proofs/Orders` (sorting tells just these), `proofs/NormalFacts`
-//! (what normal forms keep of formulas), `proofs/RowLaws` (what rows say of the form) and `proofs/ListTotals` (how many
-//! clauses and literals a list has).
+//! (what normal forms keep of formulas), `proofs/RowLaws` (what rows say of the form), `proofs/ListTotals` (how many clauses and
+//! literals a list has), `proofs/TruthLaws` and `proofs/BoolLaws` (what forms mean), `proofs/SoundLists` and
+//! `proofs/SufficientLists` (what clause lists mean), `proofs/Counting` and `proofs/FormulaEquations` (what occurs in
+//! formulas).
 #![tactic(auto)]
 
 mod chain;

@@ -14,8 +14,8 @@
 //! one recursion a literal.
 //!
 //! Laws for the crates above stand in `proofs/OneLeastChain` (there is one least chain and one answer), `proofs/OneResolvent`
-//! (two clauses have one exact resolvent by the same choice) and `proofs/Numbered` (the variables of a clause made of
-//! literals are below its number of variables).
+//! (two clauses have one exact resolvent by the same choice), `proofs/SameLiterals` (literals after renaming) and
+//! `proofs/Numbered` (the variables of a clause made of literals are below its number of variables).
 #![tactic(auto)]
 
 mod chain;

@@ -9,7 +9,8 @@
 //! are as many branches as orders of the symbols; the search goes down by one recursion an existential.
 //!
 //! Laws for the crates above stand in `proofs/FullImages` (the full map leads to the full image), `proofs/ImageCounts`
-//! (the counts of a full image's clause list don't depend on its symbols) and `proofs/OneComposed` (one answer).
+//! (the counts of a full image's clause list don't depend on its symbols), `proofs/OneComposed` (one answer) and
+//! `proofs/NumberedLists` (the rows of a clause list are numbered).
 #![tactic(auto)]
 
 mod arguments;

@@ -2,6 +2,8 @@ mod AlienLaws
 mod BadLaws
 mod ClausalLaws
 mod Climbs
+mod Crosses
+pub mod EmptyMaps
 mod Entry
 mod Existentials
 mod FittedParents
@@ -17,5 +19,8 @@ mod OwnForms
 mod PieceLaws
 pub mod SortedLaws
 mod TableLaws
+pub mod TrueClauses
+pub mod TrueForms
+pub mod TrueSteps
 mod VerdictLaws
 mod WithinLaws

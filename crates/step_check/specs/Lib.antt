@@ -7,4 +7,5 @@ pub mod Representatives
 pub mod StalePlaces
 pub mod Steps
 pub mod Tables
+pub mod Truth
 pub mod Verdicts

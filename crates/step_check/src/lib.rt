@@ -16,7 +16,9 @@
 //! are structural, by a loop. A leaf's name is looked for among the problem's items one by one. What justifications, chains
 //! and composed images cost stands with those crates.
 //!
-//! Laws for the crates above stand in `proofs/OneRepresentative`, `proofs/OneVerdict` and `proofs/SortedLaws`.
+//! Laws for the crates above stand in `proofs/OneRepresentative`, `proofs/OneVerdict` and `proofs/SortedLaws`, and on truth in
+//! `proofs/TrueClauses` (justified and chained clauses), `proofs/TrueForms` (regrouped forms), `proofs/TrueSteps` (steps that are
+//! right by their clauses) and `proofs/EmptyMaps` (structural steps with an empty map).
 #![tactic(auto)]
 
 mod aliens;
@@ -41,6 +43,6 @@ mod workers;
 pub use bad_steps::first_bad;
 pub use freshness::fresh;
 pub use judging::{form, judge};
-pub use laws::{representatives_are_one, verdicts_are_one};
+pub use laws::{representatives_are_one, verdicts_are_one, verdicts_keep_truth};
 pub use verdict::{Limit, Reason, Verdict, Verdicts};
 pub use workers::judge_all;

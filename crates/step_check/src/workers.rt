@@ -1,5 +1,6 @@
 //! The verdicts on all steps, judged in pieces.
 ghost use Rattle.std.specs.Prelude.{◌≡◌, ◌+◌, ◌<◌, ◌≤◌, ◌^◌, ◌++◌, length, IfOk, Ok};
+ghost use Rattle.std.specs.Thread.{IsSync};
 ghost use Rattle.derivation_graph.specs.Graphs.{IsGraphAnswer};
 ghost use Rattle.step_check.specs.Freshness.{AreFirstVerdicts, AreVerdicts, HaveVerdicts};
 ghost use Rattle.step_check.specs.Pieces.{start_of, IsPiece};
@@ -13,7 +14,7 @@ use derivation_graph::Graph;
 use dk_io::Gate;
 use dk_syntax::{NoMemory, Problem, Seq};
 use std::alloc::Global;
-use std::thread::Threads;
+use std::thread::{Threads, join};
 use tstp_trace::Trace;
 
 /// How many steps stand before a piece.
@@ -63,8 +64,9 @@ fn joined(left: Seq<Verdict>, right: Seq<Verdict>) -> Result<Seq<Verdict>, NoMem
     Ok(Seq::from_vec(verdicts))
 }
 
-/// The verdicts on the steps of the pieces from `low` up to `high`.
-fn judge_pieces<G: Gate>(
+/// The verdicts on the steps of the pieces from `low` up to `high`, each half of the pieces beside the other.
+fn judge_pieces<R: Threads + Sync, G: Gate>(
+    rt: &R,
     alloc: Global,
     problem: &Problem,
     trace: &Trace,
@@ -87,13 +89,29 @@ fn judge_pieces<G: Gate>(
         return judge_one(alloc, problem, trace, graph, pieces, low, gate);
     }
     let middle = low + (high - low) / 2;
-    let left = judge_pieces(alloc, problem, trace, graph, pieces, low, middle, gate)?;
-    let right = judge_pieces(alloc, problem, trace, graph, pieces, middle, high, gate)?;
-    joined(left, right)
+    let (left, right) = join(
+        rt,
+        || -> Result<Seq<Verdict>, NoMemory>
+            requires { IsSync R.row × IsSync G.row × IsGraphAnswer (nodes_of trace.now) (Ok graph.now)
+                × HaveFitParents trace.now.steps × (length graph.now.parents < 2 ^ 32)
+                × (low < middle) × (middle ≤ pieces) × (pieces < 2 ^ 32) }
+            ensures { IfOk result (λ verdicts. IsPiece
+                (case_of problem.entry.now trace.entry.now graph.entry.now) pieces low middle verdicts) }
+        { judge_pieces(rt, alloc, problem, trace, graph, pieces, low, middle, gate) },
+        || -> Result<Seq<Verdict>, NoMemory>
+            requires { IsSync R.row × IsSync G.row × IsGraphAnswer (nodes_of trace.now) (Ok graph.now)
+                × HaveFitParents trace.now.steps × (length graph.now.parents < 2 ^ 32)
+                × (middle < high) × (high ≤ pieces) × (pieces < 2 ^ 32) }
+            ensures { IfOk result (λ verdicts. IsPiece
+                (case_of problem.entry.now trace.entry.now graph.entry.now) pieces middle high verdicts) }
+        { judge_pieces(rt, alloc, problem, trace, graph, pieces, middle, high, gate) },
+    );
+    joined(left?, right?)
 }
 
 /// The verdicts on all steps, before freshness, in as many pieces as there are workers.
-fn judge_each<G: Gate>(
+fn judge_each<R: Threads + Sync, G: Gate>(
+    rt: &R,
     alloc: Global,
     problem: &Problem,
     trace: &Trace,
@@ -115,14 +133,14 @@ fn judge_each<G: Gate>(
     if pieces == 0 {
         return Ok(Seq::new(alloc));
     }
-    judge_pieces(alloc, problem, trace, graph, pieces, 0, pieces, gate)
+    judge_pieces(rt, alloc, problem, trace, graph, pieces, 0, pieces, gate)
 }
 
 /// The verdict list of a trace, for its graph: the verdict on each step, in the order of the file, with freshness. The steps
-/// are judged in as many pieces as there are workers, one after the other so far; the gate is passed once before each piece.
-/// The answer does not depend on the number of workers.
+/// are judged in as many pieces as there are workers, beside each other as far as threads can be had; the gate is passed once
+/// before each piece. The answer does not depend on the number of workers.
 pub fn judge_all<R: Threads + Sync, G: Gate>(
-    _rt: &R,
+    rt: &R,
     alloc: Global,
     problem: &Problem,
     trace: &Trace,
@@ -136,7 +154,7 @@ pub fn judge_all<R: Threads + Sync, G: Gate>(
     ensures { IfOk result (λ verdicts.
         AreVerdicts (case_of problem.now trace.now graph.now) verdicts.list) }
 {
-    let list = judge_each(alloc, problem, trace, graph, workers, gate)?;
+    let list = judge_each(rt, alloc, problem, trace, graph, workers, gate)?;
     let mut verdicts = Verdicts { list };
     fresh(problem, &mut verdicts);
     Ok(verdicts)

@@ -17,3 +17,5 @@ mod justifications;
 mod skolem_rows;
 #[cfg(test)]
 mod unifiers;
+#[cfg(test)]
+mod workers;

@@ -1,2 +1,5 @@
+pub mod ExpansionReport
+pub mod Laws
 pub mod StepLines
+pub mod StepProblems
 pub mod Words

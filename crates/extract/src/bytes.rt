@@ -14,7 +14,7 @@ pub fn put(out: &mut Vec<u8>, text: &str) -> Result<(), NoMemory>
     Ok(())
 }
 
-pub fn put_number(out: &mut Vec<u8>, number: u32) -> Result<(), NoMemory>
+pub fn put_number(out: &mut Vec<u8>, number: u64) -> Result<(), NoMemory>
     ensures { OnOk result (out.new.items ≡ out.old.items ++ decimal number) }
 {
     let mut digits = Buffer::new();

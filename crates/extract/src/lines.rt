@@ -3,6 +3,7 @@ ghost use Rattle.std.specs.Prelude.{◌≡◌, ◌+◌, ◌++◌, ◌<◌, ◌�
 ghost use Rattle.extract.specs.StepLines.{IsLineOf, line_of, lines_of};
 
 use crate::bytes::{put, put_item_name, put_number};
+use crate::steps::number_at;
 use crate::words::put_verdict;
 use dk_syntax::NoMemory;
 use std::alloc::Global;
@@ -18,7 +19,7 @@ fn put_line(
 ) -> Result<(), NoMemory>
     ensures { OnOk result (out.new.items ≡ out.old.items ++ line_of number step.now verdict.now) }
 {
-    put_number(out, number)?;
+    put_number(out, u64::from(number))?;
     put(out, " ")?;
     put_item_name(alloc, out, &step.name)?;
     put(out, " ")?;
@@ -45,16 +46,6 @@ pub fn step_line(
     let mut out = Vec::new(alloc);
     put_line(alloc, &mut out, step, &steps[place], &list[place])?;
     Ok(out)
-}
-
-/// The number of the step at a place.
-fn number_at(place: usize) -> Result<u32, NoMemory>
-    ensures { IfOk result (λ number. number ≡ 1 + place) }
-{
-    match u32::try_from(place) {
-        Ok(before) if before < u32::MAX => Ok(before + 1),
-        _ => Err(NoMemory),
-    }
 }
 
 /// The lines of all steps of a trace in order, by the verdicts on them.

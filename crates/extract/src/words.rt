@@ -37,7 +37,7 @@ fn put_clause(out: &mut Vec<u8>, clause: u32) -> Result<(), NoMemory>
         ++ decimal clause) }
 {
     put(out, "unjustified clause ")?;
-    put_number(out, clause)
+    put_number(out, u64::from(clause))
 }
 
 fn put_reason(alloc: Global, out: &mut Vec<u8>, reason: &Reason) -> Result<(), NoMemory>

@@ -1,0 +1,14 @@
+pub mod Clauses
+pub mod Growing
+pub mod Instances
+pub mod Keys
+pub mod Laws
+pub mod Lists
+pub mod Marks
+pub mod Naming
+pub mod Needs
+pub mod Notes
+pub mod Rows
+pub mod States
+pub mod Verdicts
+pub mod Weights

@@ -1,0 +1,12 @@
+pub mod Closing
+pub mod Covers
+pub mod Laws
+pub mod Order
+pub mod Origins
+pub mod Ranks
+pub mod Rooted
+pub mod SignedForms
+pub mod Sites
+pub mod Spots
+pub mod Tables
+pub mod Walks

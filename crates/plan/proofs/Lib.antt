@@ -1,0 +1,10 @@
+pub mod ChainLaws
+pub mod Counts
+pub mod FitLaws
+pub mod FitOrigins
+pub mod FreshLists
+pub mod LeafSymbols
+pub mod Membership
+pub mod OneAnswer
+pub mod OriginLaws
+pub mod StepMaps

@@ -1,0 +1,5 @@
+pub mod Laws
+pub mod Maps
+pub mod Origins
+pub mod Plans
+pub mod Thins

@@ -1,0 +1,92 @@
+-- Plans, and the first refusal where there is none.
+use Rattle.std.specs.Prelude.{◌≡◌, ℕ, ◌-◌, Bool, List, map, slice_get, filter_map, None, Some, Result, Ok, Err}
+use Rattle.derivation_graph.specs.Graphs.{IsGraphAnswer}
+use Rattle.derivation_graph.specs.Roots.{IsRootAnswer}
+use Rattle.derivation_graph.specs.declared.graph.Graph.{Graph}
+use Rattle.derivation_graph.specs.declared.graph.GraphFault.TheVariants as graph
+use Rattle.dk_syntax.specs.declared.Problem.{Problem}
+use Rattle.dk_syntax.specs.declared.formula.Formula.{Formula}
+use Rattle.dk_syntax.specs.declared.term.Term.{Term}
+use Rattle.ground_instances.specs.Instances.{clauses_in, IsPullAnswer}
+use Rattle.ground_instances.specs.Keys.{Judged}
+use Rattle.ground_instances.specs.Lists.{HasExactTable, instances_of}
+use Rattle.ground_instances.specs.declared.instance.PullFault.{PullFault}
+use Rattle.ground_instances.specs.declared.instance.PullFault.TheVariants as pull
+use Rattle.plan.specs.Laws.{judged_of}
+use Rattle.plan.specs.Origins.{AreOrigins}
+use Rattle.plan.specs.Thins.{AreThins}
+use Rattle.plan.specs.declared.plan.Plan.{Plan}
+use Rattle.plan.specs.declared.plan.PlanFault.{PlanFault}
+use Rattle.plan.specs.declared.plan.PlanFault.TheVariants.{Cycle, Memory, MissingParent, NoRefutation, Over, OverWeight, OverWide, Wrong}
+use Rattle.skolem_order.specs.Order.{AreNeeded, root_terms}
+use Rattle.step_check.specs.Freshness.{AreVerdicts, IsFirstBad}
+use Rattle.step_check.specs.Steps.{case_of, is_conjecture_leaf, nodes_of}
+use Rattle.step_check.specs.declared.verdict.Verdict.{Verdict}
+use Rattle.step_check.specs.declared.verdict.Verdict.TheVariants as verdict
+use Rattle.tstp_trace.specs.declared.step.Trace.{Trace}
+
+-- ---- the stages
+
+-- the formulas of the steps, and which steps are leaves that name the conjecture
+abbrev pub formulas_in : Trace → List Formula
+formulas_in trace = map (λ step. step.formula) trace.steps
+
+abbrev pub barred_in : Problem → Trace → List Bool
+barred_in problem trace = map (λ step. is_conjecture_leaf problem step.source) trace.steps
+
+-- the graph of the trace and its root
+pub record AreStart (problem : Problem) (trace : Trace) (graph : Graph) (root : ℕ) : Type 0 where
+  pub graph_is : IsGraphAnswer (nodes_of trace) (Ok graph)
+  pub root_is : IsRootAnswer (formulas_in trace) (barred_in problem trace) (Some root)
+
+-- and the verdicts on its steps
+pub record AreJudged (problem : Problem) (trace : Trace) (graph : Graph) (root : ℕ) (list : List Verdict) : Type 0 where
+  pub start : AreStart problem trace graph root
+  pub verdicts : AreVerdicts (case_of problem trace graph) list
+
+-- ---- plans
+
+-- what instances are pulled back from
+abbrev pub judged_in : Problem → Trace → Graph → List Verdict → Judged
+judged_in problem trace graph list = judged_of (case_of problem trace graph) list
+
+-- the thin trees and the instances' clauses need these Skolem terms, in order
+abbrev pub IsOrder : Plan → List Term → Type 0
+IsOrder plan order = AreNeeded plan.origins.list (root_terms (filter_map (λ thin. thin) plan.thins) (clauses_in (instances_of plan.instances))) order
+
+-- the plan for the problem, the trace and the limit
+pub record IsPlan (problem : Problem) (trace : Trace) (limit : ℕ) (plan : Plan) : Type 0 where
+  pub judged : AreJudged problem trace plan.graph plan.root plan.verdicts.list
+  pub right : IsFirstBad plan.verdicts.list None
+  pub instances : IsPullAnswer (judged_in problem trace plan.graph plan.verdicts.list) plan.root limit (Ok (instances_of plan.instances))
+  pub table : HasExactTable plan.instances
+  pub thins : AreThins (judged_in problem trace plan.graph plan.verdicts.list) (instances_of plan.instances) plan.thins
+  pub origins : AreOrigins (judged_in problem trace plan.graph plan.verdicts.list) plan.origins.list
+  pub order : IsOrder plan plan.order
+
+-- ---- refusals
+
+-- that step is the first that is bad, and has the verdict
+abbrev pub IsBadStep : Problem → Trace → ℕ → Verdict → Type 0
+IsBadStep problem trace step bad =
+    (graph_here : Graph) × (root : ℕ) × (list : List Verdict) × AreJudged problem trace graph_here root list × IsFirstBad list (Some step)
+    × (slice_get list (step - 1) ≡ Some bad)
+
+-- no step is bad, and the instances are refused
+abbrev pub IsPullRefusal : Problem → Trace → ℕ → PullFault → Type 0
+IsPullRefusal problem trace limit fault =
+    (graph_here : Graph) × (root : ℕ) × (list : List Verdict) × AreJudged problem trace graph_here root list × IsFirstBad list None
+    × IsPullAnswer (judged_in problem trace graph_here list) root limit (Err fault)
+
+-- the plan, or the first refusal. Want of memory may come at any time.
+abbrev pub IsPlanAnswer : Problem → Trace → ℕ → Result Plan PlanFault → Type 0
+IsPlanAnswer problem trace limit (Ok plan) = IsPlan problem trace limit plan
+IsPlanAnswer problem trace limit (Err (MissingParent step name)) = IsGraphAnswer (nodes_of trace) (Err (graph.MissingParent step name))
+IsPlanAnswer problem trace limit (Err (Cycle step)) = IsGraphAnswer (nodes_of trace) (Err (graph.Cycle step))
+IsPlanAnswer problem trace limit (Err NoRefutation) =
+    (graph_here : Graph) × IsGraphAnswer (nodes_of trace) (Ok graph_here) × IsRootAnswer (formulas_in trace) (barred_in problem trace) None
+IsPlanAnswer problem trace limit (Err (Wrong step reason)) = IsBadStep problem trace step (verdict.Wrong reason)
+IsPlanAnswer problem trace limit (Err (Over step over)) = IsBadStep problem trace step (verdict.Over over)
+IsPlanAnswer problem trace limit (Err (OverWeight weight)) = IsPullRefusal problem trace limit (pull.OverWeight weight)
+IsPlanAnswer problem trace limit (Err (OverWide step)) = IsPullRefusal problem trace limit (pull.OverWide step)
+IsPlanAnswer problem trace limit (Err Memory) = Unit {0}

@@ -1,7 +1,14 @@
+pub mod BuildSteps
+pub mod ConsumerSteps
 pub mod ConsumerTypes
 pub mod DrinkerTypes
 pub mod FormulaViews
 pub mod InstanceTypes
+pub mod LiftSteps
 pub mod ListLaws
+pub mod OutputSteps
 pub mod OverLaws
+pub mod PickSteps
+pub mod Results
 pub mod TranslationLaws
+pub mod UnderSteps

@@ -3,10 +3,16 @@ pub mod Consumers
 pub mod Drinkers
 pub mod Eigenvariables
 pub mod Formulas
+pub mod Frames
 pub mod Instances
+pub mod Justified
 pub mod Laws
+pub mod Outputs
+pub mod Places
+pub mod Reading
 pub mod Symbols
 pub mod ThinTrees
 pub mod Translation
+pub mod TreeKinds
 pub mod ViewLaws
 pub mod Views

@@ -1,13 +1,31 @@
 //! The proof terms of a refutation, and that they have their types.
 //!
-//! Definitions and laws alone, no code: formulas and ground terms of the theory, their translations,
-//! thin trees, consumers, drinkers, and the terms of subsumption and resolution. specs/Views has the
-//! program's formulas as those of the theory, whatever the formula.
+//! `drinker`, `contradict` and `resolve_term` build terms that are the theory's by their contracts, and have their
+//! types where the contracts say so. Formulas and ground terms of the theory, their translations, thin trees,
+//! consumers, drinkers, and the terms of subsumption and resolution stand in `specs/`; specs/Views has the program's
+//! formulas as those of the theory, whatever the formula.
+//!
+//! A ground term whose head is a Skolem symbol is its eigenvariable, whose number is the term's place in an order. It is
+//! looked for in the order by a walk. All else is linear in what is read and built.
 //!
 //! Laws for the crates above stand in `laws` (each one's contract is a law) and in these files of `proofs/`:
 //! `TranslationLaws` (translations and their types), `FormulaViews` (the program's formulas, kind by kind),
 //! `OverLaws` (formulas over a signature), `ListLaws` (lists), `ConsumerTypes`, `DrinkerTypes` and
-//! `InstanceTypes` (the types of proof terms).
+//! `InstanceTypes` (the types of proof terms). `ConsumerSteps` has the consumer of each kind of formula where it stands.
 #![tactic(auto)]
 
+mod build;
+mod contradiction;
+mod drinkers;
+mod eigenvariables;
+mod ground;
+mod instance;
 pub mod laws;
+mod outputs;
+mod place;
+mod proof_terms;
+
+pub use contradiction::contradict;
+pub use drinkers::drinker;
+pub use instance::resolve_term;
+pub use place::Place;

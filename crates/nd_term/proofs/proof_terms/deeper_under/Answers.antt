@@ -1,0 +1,8 @@
+use Rattle.std.proofs.Common.{ap, ◌∙◌}
+use Rattle.lp_term.specs.View.{term_of}
+use Rattle.nd_term.proofs.UnderSteps.{view_under}
+use Rattle.nd_term.proofs.Results.{ok_map}
+use Rattle.nd_term.proofs.proof_terms.deeper_under.Goals as goal
+
+pub returns : goal.returns
+returns c = ok_map c.lift.result (λ r e. ap term_of e ∙ view_under c.args.t.now) c.lift.ensures

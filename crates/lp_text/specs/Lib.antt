@@ -1,3 +1,4 @@
+pub mod Lets
 pub mod Levels
 pub mod Pieces
 pub mod Print

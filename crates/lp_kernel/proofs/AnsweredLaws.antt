@@ -14,7 +14,7 @@ use Rattle.lp_exact.specs.Normalisation.{put_at, apply_at}
 use Rattle.lp_exact.specs.Objects.{Simple, simple_of}
 use Rattle.lp_kernel.specs.Judgement.{IsAllowed}
 use Rattle.lp_exact.specs.Symbols.{IsTermWord}
-use Rattle.lp_kernel.specs.LazyJudgement.{rank_of, HasLazyForm, form_individuals, form_propositions, form_pi, form_proof, HasLazyType, lazy_var, lazy_con, lazy_lam, lazy_let, lazy_app}
+use Rattle.lp_kernel.specs.LazyJudgement.{kept, rank_of, HasLazyForm, form_individuals, form_propositions, form_pi, form_proof, HasLazyType, lazy_var, lazy_con, lazy_lam, lazy_let, lazy_app}
 use Rattle.lp_kernel.specs.Checking.{exactly, a_product, Fault, unknown_name, out_of_fragment, ill_typed, Typing, typing, same_term, raised_one, type_at, declared, and_then, or_fault, is_allowed, within, argument_at, product_or, Abstraction, Reading, read_symbol, find_let, applied_to, find_argument, find_app, find_applied, read, node_count}
 use Rattle.lp_exact.specs.Signatures.{DeclaresOnce}
 use Rattle.lp_kernel.proofs.AnswerLaws.{declares}
@@ -74,27 +74,27 @@ module _ (sig : List Declaration) (o : DeclaresOnce sig) where
   symbol_reads _ d x a c h = record { finds = λ k. ap (λ z. and_then (or_fault z (unknown_name k x)) (λ a. Ok (typing a (con x)))) h; parts = inl refl }
 
   let_of : (d : List Term) (p : Abstraction) (u : Reading) (n k : ℕ) (x b y e w : Term) → p.check d (k + 2) ≡ Ok x → u.find d (k + 1 + n) ≡ Ok (typing e w) → full e ≡ full x → p.body (x ∷ d) (k + 2 + p.nodes) ≡ Ok (typing b y) → IsAllowed (simple_of x) (simple_of b)
-      → find_let p u n d k ≡ Ok (typing (put_at (rank_of (simple_of x)) w b) (put_at (rank_of (simple_of x)) w y))
+      → find_let p u n d k ≡ Ok (typing (put_at (rank_of (simple_of x)) w b) (kept (simple_of b) (put_at (rank_of (simple_of x)) w y)))
   let_of d p u n k x b y e w h l q m a =
       then_of _ h (then_of _ l (then_of _ (argument_of d (k + 1 + n) x (typing e w) q) (then_of _ m (within_of k x b _ a))))
 
   app_of : (d : List Term) (f u : Reading) (n k : ℕ) (c v a b e w : Term) → f.find d (k + 1) ≡ Ok (typing c v) → opened c ≡ pi a b → u.find d (k + 1 + n) ≡ Ok (typing e w) → full e ≡ full a → IsAllowed (simple_of a) (simple_of b)
-      → find_app f u n d k ≡ Ok (typing (put_at (rank_of (simple_of a)) w b) (apply_at (suc (rank_of (simple_of a))) v w))
+      → find_app f u n d k ≡ Ok (typing (put_at (rank_of (simple_of a)) w b) (kept (simple_of b) (apply_at (suc (rank_of (simple_of a))) v w)))
   app_of d f u n k c v a b e w h z l q m =
-      let arg : find_argument u n d k v a b ≡ Ok (typing (put_at (rank_of (simple_of a)) w b) (apply_at (suc (rank_of (simple_of a))) v w)) =
+      let arg : find_argument u n d k v a b ≡ Ok (typing (put_at (rank_of (simple_of a)) w b) (kept (simple_of b) (apply_at (suc (rank_of (simple_of a))) v w))) =
       then_of (λ s. and_then (argument_at d (k + 1 + n) a s) (applied_to k v a b)) l
-      (then_of (applied_to k v a b) (argument_of d (k + 1 + n) a (typing e w) q) (within_of k a b (typing (put_at (rank_of (simple_of a)) w b) (apply_at (suc (rank_of (simple_of a))) v w)) m)) in
+      (then_of (applied_to k v a b) (argument_of d (k + 1 + n) a (typing e w) q) (within_of k a b (typing (put_at (rank_of (simple_of a)) w b) (kept (simple_of b) (apply_at (suc (rank_of (simple_of a))) v w))) m)) in
       then_of (λ r. product_or (opened r.of) (find_argument u n d k r.value) (ill_typed (k + 1) a_product (full r.of) (length d))) h
       (ap (λ t. product_or t (find_argument u n d k v) (ill_typed (k + 1) a_product (full c) (length d))) z ∙ arg)
 
   applied_of : (d : List Term) (f u : Reading) (n k : ℕ) (c v a b e w : Term) → HasAnswers d f c v → opened c ≡ pi a b → ((j : ℕ) → u.find d j ≡ Ok (typing e w)) → full e ≡ full a → IsAllowed (simple_of a) (simple_of b)
-      → find_applied f.parts f u n d k ≡ Ok (typing (put_at (rank_of (simple_of a)) w b) (apply_at (suc (rank_of (simple_of a))) v w))
+      → find_applied f.parts f u n d k ≡ Ok (typing (put_at (rank_of (simple_of a)) w b) (kept (simple_of b) (apply_at (suc (rank_of (simple_of a))) v w)))
   applied_of d f u n k c v a b e w h z l q m = elim h.parts [
     | inl i ↦ ap (λ o. find_applied o f u n d k) i ∙ app_of d f u n k c v a b e w (h.finds (k + 1)) z (l (k + 1 + n)) q m
     | inr i ↦ parted i.0 i.1 i.2 i.3 i.4 i.5 i.6 i.7 i.8
   ]
     where
-      parted : (p : Abstraction) (x g y : Term) → f.parts ≡ Some p → c ≡ pi x g → v ≡ lam x y → ((j : ℕ) → p.check d j ≡ Ok x) → ((j : ℕ) → p.body (x ∷ d) j ≡ Ok (typing g y)) → find_applied f.parts f u n d k ≡ Ok (typing (put_at (rank_of (simple_of a)) w b) (apply_at (suc (rank_of (simple_of a))) v w))
+      parted : (p : Abstraction) (x g y : Term) → f.parts ≡ Some p → c ≡ pi x g → v ≡ lam x y → ((j : ℕ) → p.check d j ≡ Ok x) → ((j : ℕ) → p.body (x ∷ d) j ≡ Ok (typing g y)) → find_applied f.parts f u n d k ≡ Ok (typing (put_at (rank_of (simple_of a)) w b) (kept (simple_of b) (apply_at (suc (rank_of (simple_of a))) v w)))
       parted p x g y i r t s o =
           let simple_of_both : pi x g ≡ pi a b = ap opened (sym r) ∙ z in
           let ex : x ≡ a = cc in
@@ -102,7 +102,7 @@ module _ (sig : List Declaration) (o : DeclaresOnce sig) where
           let body : p.body (a ∷ d) (k + 2 + p.nodes) ≡ Ok (typing b y) = subst (λ j. p.body (j ∷ d) (k + 2 + p.nodes) ≡ Ok (typing b y)) ex (subst (λ j. p.body (x ∷ d) (k + 2 + p.nodes) ≡ Ok (typing j y)) eg (o (k + 2 + p.nodes))) in
           let check : p.check d (k + 2) ≡ Ok a = s (k + 2) ∙ ap Ok ex in
           ap (λ j. find_applied j f u n d k) i ∙ let_of d p u n k a b y e w check (l (k + 1 + n)) q body m
-          ∙ ap (λ j. Ok (typing (put_at (rank_of (simple_of a)) w b) (apply_at (suc (rank_of (simple_of a))) j w))) (sym (t ∙ ap (λ j. lam j y) ex))
+          ∙ ap (λ j. Ok (typing (put_at (rank_of (simple_of a)) w b) (kept (simple_of b) (apply_at (suc (rank_of (simple_of a))) j w)))) (sym (t ∙ ap (λ j. lam j y) ex))
 
   mutual
     pub form_is_answered : {d : List Term} {a x : Term} → HasLazyForm sig d a x → (k : ℕ) → (read sig a).check d k ≡ Ok x

@@ -18,7 +18,7 @@ use Rattle.lp_exact.proofs.NormalFormLaws.{normal_form_unique}
 use Rattle.lp_exact.proofs.LazyLaws.{full_opens, full_pi}
 use Rattle.lp_exact.proofs.FullTypeLaws.{full_is_normal, lazy_put, simple_of_put}
 use Rattle.lp_exact.proofs.SimpleLaws.{simple_of_full}
-use Rattle.lp_kernel.proofs.LazyTypeLaws.{simple_context, AreConvertible, convertible_none, convertible_more, IsLazyContext, lazy_extends, form_is_lazy, type_is_lazy, form_converts, value_converts, put_normal, function_parts, argument}
+use Rattle.lp_kernel.proofs.LazyTypeLaws.{simple_context, AreConvertible, convertible_none, convertible_more, IsLazyContext, lazy_extends, form_is_lazy, type_is_lazy, form_converts, value_put, argument_converts, function_parts, argument}
 
 pub agree_back : {g d : List Term} {n : ℕ} {a : Term} → AreConvertible g d → Gives g n a → (x : Term) × Gives d n x × Convertible a x
 agree_back convertible_none k = elim k [ ]
@@ -51,12 +51,12 @@ module _ (sig : List Declaration) (C : List ℕ → Simple → Type 0) (w : AreS
   same_full b n e = sym (simple_of_full b) ∙ ap simple_of e
 
   -- the type with the argument put in, and its normal form
-  put_in : (d : List Term) (x e v y b u n : Term) → full e ≡ full x → ((s : Simple) → simple_of e ≡ Some s → IsNormal C (simple_context d) v s) → IsLazy C (simple_of x ∷ simple_context d) y → Convertible u v → full y ≡ b → HasNormalForm (instantiate b u) n
+  put_in : (d : List Term) (x e v y b u n : Term) → full e ≡ full x → ((s : Simple) → simple_of e ≡ Some s → IsNormal C (simple_context d) v s) → IsLazy C (simple_of x ∷ simple_context d) y → ((s : Simple) → simple_of x ≡ Some s → Convertible u v) → full y ≡ b → HasNormalForm (instantiate b u) n
       → (full (put_at (rank_of (simple_of x)) v y) ≡ n) × (simple_of y ≡ simple_of n)
   put_in d x e v y b u n same h z c eb q =
       let k = rank_of (simple_of x) in
       let l = lazy_put C z k (simple_context d) (for_last v) (argument sig C w symbols d e x v same h) in
-      let one = subst (λ t. HasNormalForm (instantiate t u) (full (put_at k v y))) eb (put_normal sig C w symbols d y k l c) in
+      let one = subst (λ t. HasNormalForm (instantiate t u) (full (put_at k v y))) eb (value_put sig C w symbols d y (simple_of x) z l c) in
       let two = normal_form_unique (conv_refl (instantiate b u)) one q in
       (two, sym (simple_of_put C z k (for_last v)) ∙ same_full (put_at k v y) n two)
 
@@ -66,7 +66,7 @@ module _ (sig : List Declaration) (C : List ℕ → Simple → Type 0) (w : AreS
     checked_has_form {d = d} (checked_propositions g) f m = (_, form_propositions d)
     checked_has_form (checked_pi h k) f m =
         let i = checked_has_form h f m in
-        let j = checked_has_form k (lazy_extends sig C w symbols f (form_is_lazy sig C w symbols i.1 f)) (convertible_more (form_converts i.1) m) in
+        let j = checked_has_form k (lazy_extends sig C w symbols f (form_is_lazy sig C w symbols i.1 f)) (convertible_more (form_converts sig C w symbols i.1 f) m) in
         (_, form_pi i.1 j.1)
     checked_has_form (checked_proof h) f m = let i = found_has_lazy h f m in (_, form_proof i.2 i.3)
 
@@ -76,18 +76,18 @@ module _ (sig : List Declaration) (C : List ℕ → Simple → Type 0) (w : AreS
     found_has_lazy {d = d} (found_lam {b = b} {m = n} c k h o) f m =
         let i = checked_has_form c f m in
         let z = form_is_lazy sig C w symbols i.1 f in
-        let e = full_of d z (form_converts i.1) k in
-        let j = found_has_lazy h (lazy_extends sig C w symbols f z) (convertible_more (form_converts i.1) m) in
+        let e = full_of d z (form_converts sig C w symbols i.1 f) k in
+        let j = found_has_lazy h (lazy_extends sig C w symbols f z) (convertible_more (form_converts sig C w symbols i.1 f) m) in
         (_, _, lazy_lam i.1 j.2 (allowed_back i.0 j.0 n b e (same_full j.0 b j.3) o), full_pi i.0 j.0 ∙ ap₂ pi e j.3)
     found_has_lazy {d = d} (found_let {b = b} {m = r} {n = n} {u = u} c k h l q o) f m =
         let i = checked_has_form c f m in
         let z = form_is_lazy sig C w symbols i.1 f in
-        let e = full_of d z (form_converts i.1) k in
+        let e = full_of d z (form_converts sig C w symbols i.1 f) k in
         let j = found_has_lazy h f m in
-        let y = found_has_lazy l (lazy_extends sig C w symbols f z) (convertible_more (form_converts i.1) m) in
+        let y = found_has_lazy l (lazy_extends sig C w symbols f z) (convertible_more (form_converts sig C w symbols i.1 f) m) in
         let same = j.3 ∙ sym e in
         let zb = (type_is_lazy sig C w symbols y.2 (lazy_extends sig C w symbols f z)).0 in
-        let p = put_in d i.0 j.0 j.1 y.0 b u n same (type_is_lazy sig C w symbols j.2 f).1 zb (value_converts j.2) y.3 q in
+        let p = put_in d i.0 j.0 j.1 y.0 b u n same (type_is_lazy sig C w symbols j.2 f).1 zb (argument_converts sig C w symbols i.0 j.2 f same) y.3 q in
         (_, _, lazy_let i.1 j.2 same y.2 (allowed_back i.0 y.0 r n e p.1 o), p.0)
     found_has_lazy {d = d} (found_app {a = a} {b = b} {n = n} {u = u} h k q o) f m =
         let i = found_has_lazy h f m in
@@ -95,5 +95,5 @@ module _ (sig : List Declaration) (C : List ℕ → Simple → Type 0) (w : AreS
         let r = product_of (opened i.0) a b (sym (full_opens i.0) ∙ i.3) in
         let same = j.3 ∙ sym r.3 in
         let z = function_parts sig C w symbols (type_is_lazy sig C w symbols i.2 f).0 r.2 in
-        let p = put_in d r.0 j.0 j.1 r.1 b u n same (type_is_lazy sig C w symbols j.2 f).1 z.1 (value_converts j.2) r.4 q in
+        let p = put_in d r.0 j.0 j.1 r.1 b u n same (type_is_lazy sig C w symbols j.2 f).1 z.1 (argument_converts sig C w symbols r.0 j.2 f same) r.4 q in
         (_, _, lazy_app i.2 r.2 j.2 same (allowed_back r.0 r.1 a n r.3 p.1 o), p.0)

@@ -85,7 +85,7 @@ module _ (sig : List Declaration) (w : IsWellFormedSignature sig) (objects : (g 
   lazy_types_extend p h k = record {
     fit = context_extends w p.fit h;
     order = lazy_extends sig C v symbols p.order (form_is_lazy sig C v symbols k p.order);
-    agree = convertible_more (form_converts k) p.agree;
+    agree = convertible_more (form_converts sig C v symbols k p.order) p.agree;
   }
 
   found : {g d : List Term} {t a b : Term} → HasLazyTypes g d → HasLazyType sig d t a b → HasType sig g t (full a) × HasType sig g (full a) type
@@ -129,7 +129,7 @@ module _ (sig : List Declaration) (w : IsWellFormedSignature sig) (objects : (g 
       and_only (q.check d (k + 2)) _ (h.checks g d (k + 2) p m.2) (λ x ex.
       let ox = h.opens d (k + 2) x ex in
       and_only ((read sig u).find d (k + 1 + n)) _ (l.finds g d (k + 1 + n) i.0 p i.3) (λ r er.
-      and_only (argument_at d (k + 1 + n) x r) _ (argument_only (k + 1 + n) r p (answer_has_type sig u d (k + 1 + n) r er) i.3 (form_is_lazy sig C v symbols ox p.order) (conv_trans (conv_sym (form_converts ox)) e.0)) (λ y ey.
+      and_only (argument_at d (k + 1 + n) x r) _ (argument_only (k + 1 + n) r p (answer_has_type sig u d (k + 1 + n) r er) i.3 (form_is_lazy sig C v symbols ox p.order) (conv_trans (conv_sym (form_converts sig C v symbols ox p.order)) e.0)) (λ y ey.
       and_only (q.body (x ∷ d) (k + 2 + q.nodes)) _ (h.bodies (a ∷ g) (x ∷ d) (k + 2 + q.nodes) j.0 (lazy_types_extend p m.2 ox) j.4) (λ s es. within_only k x s.of _))))
 
   product_only : (t : Term) (f : Term → Term → Result Typing Fault) (e : Fault) (x y : Term) → t ≡ pi x y → IsOkOrOutside (f x y) → IsOkOrOutside (product_or t f e)

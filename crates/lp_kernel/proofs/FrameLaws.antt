@@ -1,15 +1,15 @@
 -- What frames and the program's context are, from their ends.
 use Rattle.std.proofs.Common.{◌≡◌, ℕ, ◌+◌, List, [], ◌∷◌, ◌++◌, Bool, true, false, if◌then◌else◌, Result, Ok, Err, length, refl, sym, ap, ap₂, ◌∙◌, arith}
 use Rattle.lp_term.specs.LambdaPi.{Term, lam, app, pi}
+use Rattle.lp_term.specs.Typing.{Declaration}
 use Rattle.lp_term.specs.View.{term_of}
 use Rattle.lp_term.specs.declared.lp.Lp.{Lp}
 use Rattle.lp_kernel.specs.declared.finding.Frame.{Frame}
 use Rattle.lp_kernel.specs.declared.finding.Frame.TheVariants.{Body, Within, Last}
-use Rattle.lp_kernel.specs.declared.finding.Entry.{Entry}
 use Rattle.lp_exact.specs.LazyTypes.{full}
 use Rattle.lp_exact.specs.Layers.{opened}
 use Rattle.lp_kernel.specs.Checking.{Typing, typing, Fault, ill_typed, exactly, and_then, same_term, read, node_count, product_or, find_argument}
-use Rattle.lp_kernel.specs.Walking.{continued, resumed, turned, context_of, argument_in, find_at, check_at, sig_of, lambda_found, let_found, last_found}
+use Rattle.lp_kernel.specs.Walking.{continued, resumed, turned, context_of, argument_in, find_at, check_at, lambda_found, let_found, last_found}
 use Rattle.lp_kernel.proofs.AnswerLaws.{term_same}
 use Rattle.lp_kernel.proofs.AnsweredLaws.{term_is}
 
@@ -51,24 +51,24 @@ then_then (Ok a) f g = refl
 then_then (Err e) f g = refl
 
 -- what is found below a frame that was pushed with a type
-pub below : (sig : List Entry) (fs : List Frame) (f : Frame) (l : List Lp) (x : Lp) (t : Term) (n : ℕ) → resumed (fs ++ (f ∷ [])) (find_at sig (l ++ (x ∷ [])) t n) ≡ resumed fs (and_then ((read (sig_of sig) t).find (term_of x ∷ context_of l) n) (continued f))
-below sig fs f l x t n = resumed_last fs f (find_at sig (l ++ (x ∷ [])) t n) ∙ ap (λ d. resumed fs (and_then ((read (sig_of sig) t).find d n) (continued f))) (context_last l x)
+pub below : (sig : List Declaration) (fs : List Frame) (f : Frame) (l : List Lp) (x : Lp) (t : Term) (n : ℕ) → resumed (fs ++ (f ∷ [])) (find_at sig (l ++ (x ∷ [])) t n) ≡ resumed fs (and_then ((read sig t).find (term_of x ∷ context_of l) n) (continued f))
+below sig fs f l x t n = resumed_last fs f (find_at sig (l ++ (x ∷ [])) t n) ∙ ap (λ d. resumed fs (and_then ((read sig t).find d n) (continued f))) (context_last l x)
 
-pub lambda_down : (sig : List Entry) (fs : List Frame) (l : List Lp) (a t : Term) (x : Lp) (k : ℕ) → Ok (term_of x) ≡ check_at sig l a (k + 1) → resumed (fs ++ (Body k x ∷ [])) (find_at sig (l ++ (x ∷ [])) t (k + 1 + node_count a)) ≡ resumed fs (find_at sig l (lam a t) k)
+pub lambda_down : (sig : List Declaration) (fs : List Frame) (l : List Lp) (a t : Term) (x : Lp) (k : ℕ) → Ok (term_of x) ≡ check_at sig l a (k + 1) → resumed (fs ++ (Body k x ∷ [])) (find_at sig (l ++ (x ∷ [])) t (k + 1 + node_count a)) ≡ resumed fs (find_at sig l (lam a t) k)
 lambda_down sig fs l a t x k e =
-    below sig fs (Body k x) l x t (k + 1 + node_count a) ∙ ap (λ c. resumed fs (and_then c (λ y. and_then ((read (sig_of sig) t).find (y ∷ context_of l) (k + 1 + node_count a)) (lambda_found k y)))) e
+    below sig fs (Body k x) l x t (k + 1 + node_count a) ∙ ap (λ c. resumed fs (and_then c (λ y. and_then ((read sig t).find (y ∷ context_of l) (k + 1 + node_count a)) (lambda_found k y)))) e
 
-pub lambda_stop : (sig : List Entry) (fs : List Frame) (l : List Lp) (a t : Term) (f : Fault) (k : ℕ) → Err f ≡ check_at sig l a (k + 1) → resumed fs (Err f) ≡ resumed fs (find_at sig l (lam a t) k)
-lambda_stop sig fs l a t f k e = ap (λ c. resumed fs (and_then c (λ y. and_then ((read (sig_of sig) t).find (y ∷ context_of l) (k + 1 + node_count a)) (lambda_found k y)))) e
+pub lambda_stop : (sig : List Declaration) (fs : List Frame) (l : List Lp) (a t : Term) (f : Fault) (k : ℕ) → Err f ≡ check_at sig l a (k + 1) → resumed fs (Err f) ≡ resumed fs (find_at sig l (lam a t) k)
+lambda_stop sig fs l a t f k e = ap (λ c. resumed fs (and_then c (λ y. and_then ((read sig t).find (y ∷ context_of l) (k + 1 + node_count a)) (lambda_found k y)))) e
 
 -- a let, from its argument's value
-module _ (sig : List Entry) (fs : List Frame) (l : List Lp) (a t u : Term) (k : ℕ) where
+module _ (sig : List Declaration) (fs : List Frame) (l : List Lp) (a t u : Term) (k : ℕ) where
   -- what is found once the domain is known
   abbrev pub bound : Term → Result Term Fault
   bound x = and_then (find_at sig l u (k + 1 + node_count (lam a t))) (argument_in (length (context_of l)) (k + 1 + node_count (lam a t)) x)
 
   abbrev inner : Term → Term → Result Typing Fault
-  inner x w = and_then ((read (sig_of sig) t).find (x ∷ context_of l) (k + 2 + node_count a)) (let_found k x w)
+  inner x w = and_then ((read sig t).find (x ∷ context_of l) (k + 2 + node_count a)) (let_found k x w)
 
   let_of_bound : (x : Term) → Ok x ≡ check_at sig l a (k + 2) → resumed fs (and_then (bound x) (inner x)) ≡ resumed fs (find_at sig l (app (lam a t) u) k)
   let_of_bound x e =
@@ -86,8 +86,8 @@ module _ (sig : List Entry) (fs : List Frame) (l : List Lp) (a t u : Term) (k : 
   let_bound_stop x f e h = ap (λ c. resumed fs (and_then c (inner x))) h ∙ let_of_bound x e
 
 -- a last argument
-pub argument_down : (sig : List Entry) (fs : List Frame) (l : List Lp) (of u : Term) (v a b : Lp) (c k level : ℕ) (f : Fault) → level ≡ length l → pi (term_of a) (term_of b) ≡ opened of → resumed (fs ++ (Last k (k + 1 + c) level v a b ∷ [])) (find_at sig l u (k + 1 + c)) ≡ resumed fs (product_or (opened of) (find_argument (read (sig_of sig) u) c (context_of l) k (term_of v)) f)
+pub argument_down : (sig : List Declaration) (fs : List Frame) (l : List Lp) (of u : Term) (v a b : Lp) (c k level : ℕ) (f : Fault) → level ≡ length l → pi (term_of a) (term_of b) ≡ opened of → resumed (fs ++ (Last k (k + 1 + c) level v a b ∷ [])) (find_at sig l u (k + 1 + c)) ≡ resumed fs (product_or (opened of) (find_argument (read sig u) c (context_of l) k (term_of v)) f)
 argument_down sig fs l of u v a b c k level f i e =
     resumed_last fs (Last k (k + 1 + c) level v a b) (find_at sig l u (k + 1 + c)) ∙
     ap (λ n. resumed fs (and_then (find_at sig l u (k + 1 + c)) (last_found k (k + 1 + c) n (term_of v) (term_of a) (term_of b)))) (i ∙ sym (context_length l)) ∙
-    ap (λ p. resumed fs (product_or p (find_argument (read (sig_of sig) u) c (context_of l) k (term_of v)) f)) e
+    ap (λ p. resumed fs (product_or p (find_argument (read sig u) c (context_of l) k (term_of v)) f)) e

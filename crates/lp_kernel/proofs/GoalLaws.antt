@@ -56,7 +56,7 @@ module _ (sig : List Declaration) (z : IsFragmentSignature sig) where
       let looked = answer_has_type sig t [] 0 j.0 j.1 in (
         full i.0,
         form_is_checked sig (HasSimpleType sig) (words_agree z) (symbol_lazy z) form lazy_none convertible_none,
-        normal_here sig (HasSimpleType sig) (words_agree z) (symbol_lazy z) [] lazy (form_converts form),
+        normal_here sig (HasSimpleType sig) (words_agree z) (symbol_lazy z) [] lazy (form_converts sig (HasSimpleType sig) (words_agree z) (symbol_lazy z) form lazy_none),
         at_type sig (HasSimpleType sig) (words_agree z) (symbol_lazy z) same (lazy_is_found sig (HasSimpleType sig) (words_agree z) (symbol_lazy z) looked lazy_none convertible_none),
       )
 
@@ -66,7 +66,7 @@ module _ (sig : List Declaration) (z : IsFragmentSignature sig) where
       let i = checked_has_form sig (HasSimpleType sig) (words_agree z) (symbol_lazy z) h lazy_none convertible_none in
       let j = found_has_lazy sig (HasSimpleType sig) (words_agree z) (symbol_lazy z) l lazy_none convertible_none in
       let lazy = form_is_lazy sig (HasSimpleType sig) (words_agree z) (symbol_lazy z) i.1 lazy_none in
-      let e = full_of sig (HasSimpleType sig) (words_agree z) (symbol_lazy z) [] lazy (form_converts i.1) k in
+      let e = full_of sig (HasSimpleType sig) (words_agree z) (symbol_lazy z) [] lazy (form_converts sig (HasSimpleType sig) (words_agree z) (symbol_lazy z) i.1 lazy_none) k in
       (j.1, then_of _ (form_is_answered sig z.once i.1 0) (then_of _ (type_is_answered sig z.once j.2 0) (argument_of [] 0 i.0 (typing j.0 j.1) (j.3 ∙ sym e))))
 
   -- one normal type
@@ -107,4 +107,4 @@ module _ (sig : List Declaration) (z : IsFragmentSignature sig) where
             let first = type_is_lazy sig (HasSimpleType sig) (words_agree z) (symbol_lazy z) looked lazy_none in
             let found = found_has_type t (full r.of) (lazy_is_found sig (HasSimpleType sig) (words_agree z) (symbol_lazy z) looked lazy_none convertible_none) in
             let one = types_convert z.once found k in
-            converts_same (HasSimpleType sig) (words_agree z) first.0 (form_is_lazy sig (HasSimpleType sig) (words_agree z) (symbol_lazy z) form lazy_none) (conv_trans (full_converts r.of) (conv_trans one (form_converts form)))
+            converts_same (HasSimpleType sig) (words_agree z) first.0 (form_is_lazy sig (HasSimpleType sig) (words_agree z) (symbol_lazy z) form lazy_none) (conv_trans (full_converts r.of) (conv_trans one (form_converts sig (HasSimpleType sig) (words_agree z) (symbol_lazy z) form lazy_none)))

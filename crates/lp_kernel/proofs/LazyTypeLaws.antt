@@ -14,7 +14,7 @@ use Rattle.lp_exact.specs.Symbols.{AreSimpleOfWords}
 use Rattle.lp_exact.specs.Reduction.{StepsTo, ReducesTo, no_step, step_then, HasNormalForm}
 use Rattle.lp_kernel.specs.Judgement.{IsAllowed, IsChecked, checked_individuals, checked_propositions, checked_pi, checked_proof, HasNormalType, found_var, found_con, found_lam, found_let, found_app}
 use Rattle.lp_exact.specs.Symbols.{IsTermWord}
-use Rattle.lp_kernel.specs.LazyJudgement.{rank_of, HasLazyForm, form_individuals, form_propositions, form_pi, form_proof, HasLazyType, lazy_var, lazy_con, lazy_lam, lazy_let, lazy_app}
+use Rattle.lp_kernel.specs.LazyJudgement.{kept, rank_of, HasLazyForm, form_individuals, form_propositions, form_pi, form_proof, HasLazyType, lazy_var, lazy_con, lazy_lam, lazy_let, lazy_app}
 use Rattle.lp_exact.proofs.ConfluenceLaws.{parallels_convert}
 use Rattle.lp_exact.proofs.StepLaws.{common_reduct}
 use Rattle.lp_exact.proofs.NormalFormLaws.{reduces_parallels}
@@ -23,8 +23,9 @@ use Rattle.lp_exact.proofs.ObjectLaws.{PutsEntries, puts_last, puts_proof, put_k
 use Rattle.lp_exact.proofs.FullTypeLaws.{lazy_renames, lazy_put, lazy_opened, full_is_normal, simple_of_rename, simple_of_put}
 use Rattle.lp_exact.proofs.SimpleLaws.{is_simple, both_is, simple_of_opened, simple_of_full}
 use Rattle.lp_exact.proofs.TypeLaws.{full_converts}
+use Rattle.lp_kernel.proofs.AbsentLaws.{put_any}
 
--- ---- what is found is convertible with what it is of
+-- ---- an argument put in
 
 put_converts : (k : ℕ) (u t : Term) → Convertible (instantiate t u) (put_at k u t)
 put_converts k u t = parallels_convert (put_at_reduces k u t)
@@ -33,22 +34,6 @@ put_converts k u t = parallels_convert (put_at_reduces k u t)
 at_converts : {t v u w : Term} → Convertible t v → Convertible u w → Convertible (instantiate t u) (instantiate v w)
 at_converts {t = t} {v = v} {u = u} {w = w} h k =
     conv_trans (conv_sym (conv_beta type t u)) (conv_trans (conv_app (conv_lam (conv_refl type) h) k) (conv_beta type v w))
-
-mutual
-  pub form_converts : {sig : List Declaration} {d : List Term} {a x : Term} → HasLazyForm sig d a x → Convertible a x
-  form_converts (form_individuals d) = conv_refl _
-  form_converts (form_propositions d) = conv_refl _
-  form_converts (form_pi h k) = conv_pi (form_converts h) (form_converts k)
-  form_converts (form_proof h e) = conv_app (conv_refl _) (value_converts h)
-
-  pub value_converts : {sig : List Declaration} {d : List Term} {t a v : Term} → HasLazyType sig d t a v → Convertible t v
-  value_converts (lazy_var h) = conv_refl _
-  value_converts (lazy_con d c h) = conv_refl _
-  value_converts (lazy_lam h k o) = conv_lam (form_converts h) (value_converts k)
-  value_converts (lazy_let {a = a} {x = x} {t = t} {u = u} {v = v} {w = w} h k e l o) =
-      conv_trans (conv_beta a t u) (conv_trans (at_converts (value_converts l) (value_converts k)) (put_converts (rank_of (simple_of x)) w v))
-  value_converts (lazy_app {a = a} {v = v} {w = w} h e k f o) =
-      conv_trans (conv_app (value_converts h) (value_converts k)) (parallels_convert (apply_reduces (suc (rank_of (simple_of a))) v w))
 
 -- ---- normal forms by conversion
 
@@ -84,6 +69,12 @@ allowed_is : (o e : Option Simple) → IsAllowed o e → (s : Simple) → e ≡ 
 allowed_is (Some r) e h s k = (r, refl)
 allowed_is None (Some b) h s k = absurd h
 allowed_is None None h s k = absurd cc
+
+pub kept_is : (o : Option Simple) (s : Simple) (v : Term) → o ≡ Some s → v ≡ kept o v
+kept_is o s v e = ap (λ x. kept x v) (sym e)
+
+kept_converts : {t v : Term} (o : Option Simple) (s : Simple) → o ≡ Some s → Convertible t v → Convertible t (kept o v)
+kept_converts {t = t} {v = v} o s e h = subst (λ z. Convertible t z) (kept_is o s v e) h
 
 module _ (sig : List Declaration) (C : List ℕ → Simple → Type 0) (w : AreSimpleOfWords C) (symbols : (g : List (Option Simple)) (x : List ℕ) (a : Term) → IsTermWord (word_of x) → Declares sig x a → IsLazy C g a × ((s : Simple) → simple_of a ≡ Some s → C x s)) where
   -- each type of the context is lazy
@@ -121,6 +112,9 @@ module _ (sig : List Declaration) (C : List ℕ → Simple → Type 0) (w : AreS
   lam_normal : {g : List (Option Simple)} {v : Term} (x : Term) (a b s : Simple) → x ≡ simple_term a → s ≡ function a b → IsNormal C (Some a ∷ g) v b → IsNormal C g (lam x v) s
   lam_normal x a b s e h n = rw (e, h) (normal_lam a n)
 
+  kept_normal : {g : List (Option Simple)} {v : Term} (o : Option Simple) (s : Simple) → o ≡ Some s → IsNormal C g v s → IsNormal C g (kept o v) s
+  kept_normal {g = g} {v = v} o s e h = subst (λ z. IsNormal C g z s) (kept_is o s v e) h
+
   mutual
     pub form_is_lazy : {d : List Term} {a x : Term} → HasLazyForm sig d a x → IsLazyContext d → IsLazy C (simple_context d) x
     form_is_lazy (form_individuals d) f = lazy_individuals (simple_context d)
@@ -146,7 +140,7 @@ module _ (sig : List Declaration) (C : List ℕ → Simple → Type 0) (w : AreS
         let j = type_is_lazy l (lazy_extends f i) in
         let p = argument d e x u q (type_is_lazy k f).1 in
         let n = rank_of (simple_of x) in
-        (lazy_put C j.0 n (simple_context d) (for_last u) p, λ s y. put_keeps C p (j.1 s (sym (simple_of_put C j.0 n (for_last u)) ∙ y)))
+        (lazy_put C j.0 n (simple_context d) (for_last u) p, λ s y. let m : simple_of b ≡ Some s = sym (simple_of_put C j.0 n (for_last u)) ∙ y in kept_normal (simple_of b) s m (put_keeps C p (j.1 s m)))
     type_is_lazy {d = d} (lazy_app {a = a} {b = b} {c = c} {e = e} {v = v} {w = u} h q k y o) f =
         let i = type_is_lazy h f in
         let j = type_is_lazy k f in
@@ -155,12 +149,45 @@ module _ (sig : List Declaration) (C : List ℕ → Simple → Type 0) (w : AreS
         let n = rank_of (simple_of a) in
         (lazy_put C z.1 n (simple_context d) (for_last u) p, λ s m. value i.1 j.1 s (sym (simple_of_put C z.1 n (for_last u)) ∙ m))
       where
-        value : HasValue d c v → HasValue d e u → (s : Simple) → simple_of b ≡ Some s → IsNormal C (simple_context d) (apply_at (suc (rank_of (simple_of a))) v u) s
+        value : HasValue d c v → HasValue d e u → (s : Simple) → simple_of b ≡ Some s → IsNormal C (simple_context d) (kept (simple_of b) (apply_at (suc (rank_of (simple_of a))) v u)) s
         value i j s m =
             let r = allowed_is (simple_of a) (simple_of b) o s m in
             let whole : simple_of c ≡ Some (function r.0 s) = sym (simple_of_opened c) ∙ ap simple_of q ∙ ap₂ simple_of_both r.1 m in
             let k = ap rank_of r.1 in
-            applies_at C (suc (rank_of (simple_of a))) (simple_context d) v u r.0 s (omega (arith, k)) (i (function r.0 s) whole) (j r.0 (same_simple e a y ∙ r.1))
+            kept_normal (simple_of b) s m (applies_at C (suc (rank_of (simple_of a))) (simple_context d) v u r.0 s (omega (arith, k)) (i (function r.0 s) whole) (j r.0 (same_simple e a y ∙ r.1)))
+
+  -- ---- what is found is convertible with what it is of
+
+  mutual
+    pub form_converts : {d : List Term} {a x : Term} → HasLazyForm sig d a x → IsLazyContext d → Convertible a x
+    form_converts (form_individuals d) f = conv_refl _
+    form_converts (form_propositions d) f = conv_refl _
+    form_converts (form_pi h k) f = conv_pi (form_converts h f) (form_converts k (lazy_extends f (form_is_lazy h f)))
+    form_converts (form_proof {e = e} h k) f = conv_app (conv_refl _) (value_converts h f truth (same_simple e propositions k))
+
+    -- an object and its value
+    pub value_converts : {d : List Term} {t a v : Term} → HasLazyType sig d t a v → IsLazyContext d → (s : Simple) → simple_of a ≡ Some s → Convertible t v
+    value_converts (lazy_var h) f s y = conv_refl _
+    value_converts (lazy_con d c h) f s y = conv_refl _
+    value_converts (lazy_lam {b = b} {x = x} h k o) f s y =
+        let r = both_is (simple_of x) (simple_of b) s y in
+        conv_lam (form_converts h f) (value_converts k (lazy_extends f (form_is_lazy h f)) r.1 r.3)
+    value_converts (lazy_let {a = a} {b = b} {e = e} {x = x} {t = t} {u = u} {v = v} {w = w} h k q l o) f s y =
+        let g = lazy_extends f (form_is_lazy h f) in
+        let n = rank_of (simple_of x) in
+        let m : simple_of b ≡ Some s = sym (simple_of_put C (type_is_lazy l g).0 n (for_last w)) ∙ y in
+        let r = allowed_is (simple_of x) (simple_of b) o s m in
+        kept_converts (simple_of b) s m (conv_trans (conv_beta a t u) (conv_trans (at_converts (value_converts l g s m) (value_converts k f r.0 (same_simple e x q ∙ r.1))) (put_converts n w v)))
+    value_converts (lazy_app {a = a} {b = b} {c = c} {e = e} {v = v} {w = w} h q k z o) f s y =
+        let n = rank_of (simple_of a) in
+        let m : simple_of b ≡ Some s = sym (simple_of_put C (function_parts (type_is_lazy h f).0 q).1 n (for_last w)) ∙ y in
+        let r = allowed_is (simple_of a) (simple_of b) o s m in
+        let whole : simple_of c ≡ Some (function r.0 s) = sym (simple_of_opened c) ∙ ap simple_of q ∙ ap₂ simple_of_both r.1 m in
+        kept_converts (simple_of b) s m (conv_trans (conv_app (value_converts h f (function r.0 s) whole) (value_converts k f r.0 (same_simple e a z ∙ r.1))) (parallels_convert (apply_reduces (suc n) v w)))
+
+  -- an argument that is an object, and its value
+  pub argument_converts : {d : List Term} {u e v : Term} (x : Term) → HasLazyType sig d u e v → IsLazyContext d → full e ≡ full x → (s : Simple) → simple_of x ≡ Some s → Convertible u v
+  argument_converts {e = e} x h f q s y = value_converts h f s (same_simple e x q ∙ y)
 
   pub normal_here : (d : List Term) {a x : Term} → IsLazy C (simple_context d) x → Convertible a x → HasNormalForm a (full x)
   normal_here d h e = conv_normal e (full_is_normal C w h)
@@ -175,15 +202,23 @@ module _ (sig : List Declaration) (C : List ℕ → Simple → Type 0) (w : AreS
   put_allowed {b = b} x u n h o = allowed_full x (put_at n u b) (rw (simple_of_put C h n (for_last u)) o)
 
   -- a type with the argument put in
-  pub put_normal : (d : List Term) (b : Term) {u v : Term} (n : ℕ) → IsLazy C (simple_context d) (put_at n v b) → Convertible u v → HasNormalForm (instantiate (full b) u) (full (put_at n v b))
+  put_normal : (d : List Term) (b : Term) {u v : Term} (n : ℕ) → IsLazy C (simple_context d) (put_at n v b) → Convertible u v → HasNormalForm (instantiate (full b) u) (full (put_at n v b))
   put_normal d b {v = v} n h e = normal_here d h (conv_trans (at_converts (conv_sym (full_converts b)) e) (put_converts n v b))
+
+  -- the same where only an object's value is known
+  pub value_put : (d : List Term) (b : Term) {u v : Term} (o : Option Simple) → IsLazy C (o ∷ simple_context d) b → IsLazy C (simple_context d) (put_at (rank_of o) v b) → ((s : Simple) → o ≡ Some s → Convertible u v) → HasNormalForm (instantiate (full b) u) (full (put_at (rank_of o) v b))
+  value_put d b (Some s) z l h = put_normal d b (rank_of (Some s)) l (h s refl)
+  value_put d b {u = u} {v = v} None z l h =
+      let e : put_at 0 v b ≡ put_at 0 u b = put_any C z 0 0 v u in
+      let k = put_normal d b {u = u} {v = u} 0 (subst (λ t. IsLazy C (simple_context d) t) e l) (conv_refl u) in
+      subst (λ t. HasNormalForm (instantiate (full b) u) (full t)) (sym e) k
 
   mutual
     -- what is opened is a type of the fragment
     pub form_is_checked : {g d : List Term} {a x : Term} → HasLazyForm sig d a x → IsLazyContext d → AreConvertible g d → IsChecked sig g a
     form_is_checked {g = g} (form_individuals d) f m = checked_individuals g
     form_is_checked {g = g} (form_propositions d) f m = checked_propositions g
-    form_is_checked (form_pi h k) f m = checked_pi (form_is_checked h f m) (form_is_checked k (lazy_extends f (form_is_lazy h f)) (convertible_more (form_converts h) m))
+    form_is_checked (form_pi h k) f m = checked_pi (form_is_checked h f m) (form_is_checked k (lazy_extends f (form_is_lazy h f)) (convertible_more (form_converts h f) m))
     form_is_checked (form_proof h e) f m = checked_proof (at_type e (lazy_is_found h f m))
 
     -- the judgement finds the full type of what is looked up
@@ -192,15 +227,15 @@ module _ (sig : List Declaration) (C : List ℕ → Simple → Type 0) (w : AreS
     lazy_is_found {g = g} (lazy_con d {s = x} {a = a} c h) f m = found_con g c h (normal_here d (symbols (simple_context d) x a c h).0 (conv_refl a))
     lazy_is_found {d = d} (lazy_lam {b = b} {x = x} h k o) f m =
         let i = form_is_lazy h f in
-        at_type (sym (full_pi x b)) (found_lam (form_is_checked h f m) (normal_here d i (form_converts h)) (lazy_is_found k (lazy_extends f i) (convertible_more (form_converts h) m)) (allowed_full x b o))
+        at_type (sym (full_pi x b)) (found_lam (form_is_checked h f m) (normal_here d i (form_converts h f)) (lazy_is_found k (lazy_extends f i) (convertible_more (form_converts h f) m)) (allowed_full x b o))
     lazy_is_found {d = d} (lazy_let {b = b} {e = e} {x = x} {w = u} h k q l o) f m =
         let i = form_is_lazy h f in
         let j = type_is_lazy l (lazy_extends f i) in
         let n = rank_of (simple_of x) in
-        found_let (form_is_checked h f m) (normal_here d i (form_converts h)) (at_type q (lazy_is_found k f m)) (lazy_is_found l (lazy_extends f i) (convertible_more (form_converts h) m))
-        (put_normal d b n (type_is_lazy (lazy_let h k q l o) f).0 (value_converts k)) (put_allowed x u n j.0 o)
+        found_let (form_is_checked h f m) (normal_here d i (form_converts h f)) (at_type q (lazy_is_found k f m)) (lazy_is_found l (lazy_extends f i) (convertible_more (form_converts h f) m))
+        (value_put d b (simple_of x) j.0 (type_is_lazy (lazy_let h k q l o) f).0 (argument_converts x k f q)) (put_allowed x u n j.0 o)
     lazy_is_found {d = d} (lazy_app {a = a} {b = b} {c = c} {w = u} h q k y o) f m =
         let z = function_parts (type_is_lazy h f).0 q in
         let n = rank_of (simple_of a) in
         found_app (at_type (full_opens c ∙ ap (in_parts full) q) (lazy_is_found h f m)) (at_type y (lazy_is_found k f m))
-        (put_normal d b n (type_is_lazy (lazy_app h q k y o) f).0 (value_converts k)) (put_allowed a u n z.1 o)
+        (value_put d b (simple_of a) z.1 (type_is_lazy (lazy_app h q k y o) f).0 (argument_converts a k f y)) (put_allowed a u n z.1 o)

@@ -1,12 +1,17 @@
+pub mod AbsentLaws
 pub mod AcceptanceLaws
 pub mod AnswerLaws
 pub mod AnsweredLaws
 pub mod CompletenessLaws
+pub mod CountLaws
 pub mod DecisionLaws
+pub mod DescentLaws
 pub mod DevelopmentLaws
 pub mod FrameLaws
 pub mod GoalLaws
 pub mod LazyTypeLaws
 pub mod ProgramLaws
+pub mod SignatureLaws
+pub mod SizeLaws
 pub mod StepLaws
 pub mod TypingLaws

@@ -10,14 +10,12 @@ use Rattle.lp_term.specs.declared.lp.Lp.{Lp}
 use Rattle.lp_exact.proofs.TreeLaws.{view_injective}
 use Rattle.lp_kernel.specs.Checking.{same_term}
 use Rattle.lp_kernel.specs.Developments.{Failure, bad_prelude, bad_symbol, failure_after, failure_from, is_constant_type, is_new, same_command}
-use Rattle.lp_kernel.specs.Walking.{sig_of}
-use Rattle.lp_kernel.specs.declared.finding.Entry.{Entry}
 use Rattle.lp_kernel.proofs.AnswerLaws.{term_same}
 use Rattle.lp_kernel.proofs.AnsweredLaws.{term_is}
 use Rattle.lp_kernel.proofs.DevelopmentLaws.{declarations_append, if_true}
 
 -- a test of trees is the test of terms
-same_as : (b c : Bool) → (b ≡ true → c ≡ true) → (c ≡ true → b ≡ true) → b ≡ c
+pub same_as : (b c : Bool) → (b ≡ true → c ≡ true) → (c ≡ true → b ≡ true) → b ≡ c
 same_as true true h k = refl
 same_as true false h k = sym (h refl)
 same_as false true h k = k refl
@@ -26,11 +24,6 @@ same_as false false h k = refl
 pub same_tree_is : (a b : Lp) (c : Bool) → (c ≡ true → a ≡ b) → (a ≡ b → c ≡ true) → c ≡ same_term (term_of a) (term_of b)
 same_tree_is a b c h k =
     same_as c (same_term (term_of a) (term_of b)) (λ e. ap (λ y. same_term (term_of a) (term_of y)) (sym (h e)) ∙ term_is (term_of a)) (λ e. k (view_injective a b (term_same (term_of a) (term_of b) e)))
-
--- an entry more
-pub sig_last : (l : List Entry) (e : Entry) → sig_of (l ++ (e ∷ [])) ≡ sig_of l ++ (declaration e.name (term_of e.of) ∷ [])
-sig_last [] e = refl
-sig_last (f ∷ l) e = ap (λ s. declaration f.name (term_of f.of) ∷ s) (sig_last l e)
 
 -- a command's declarations more
 pub entries_more : (s n d : List Declaration) (c : Command) (l : List Command) → n ≡ s ++ declarations (c ∷ []) → s ++ declarations (c ∷ l) ≡ d → n ++ declarations l ≡ d

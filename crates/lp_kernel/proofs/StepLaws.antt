@@ -8,7 +8,6 @@ use Rattle.lp_term.specs.Substitution.{lifted}
 use Rattle.lp_term.proofs.ViewLaws.{view_Var}
 use Rattle.lp_kernel.specs.declared.finding.Frame.{Frame}
 use Rattle.lp_kernel.specs.declared.finding.Frame.TheVariants.{Body, Within, Last}
-use Rattle.lp_kernel.specs.declared.finding.Entry.{Entry}
 use Rattle.lp_kernel.specs.declared.finding.Step.TheVariants.{Down, Stop}
 use Rattle.lp_kernel.specs.declared.finding.Finding.TheVariants.{Refused}
 use Rattle.lp_kernel.specs.declared.finding.Refusal.TheVariants.{IllTyped}
@@ -21,9 +20,9 @@ use Rattle.lp_exact.specs.LazyTypes.{full}
 use Rattle.lp_exact.specs.Layers.{opened}
 use Rattle.lp_exact.specs.Normalisation.{put_at, apply_at}
 use Rattle.lp_exact.specs.Objects.{simple_of}
-use Rattle.lp_kernel.specs.LazyJudgement.{rank_of}
+use Rattle.lp_kernel.specs.LazyJudgement.{kept, rank_of}
 use Rattle.lp_kernel.specs.Checking.{a_sort, node_count, check_prf, no_sort, read_symbol, find_applied, Typing, typing, Fault, ill_typed, out_of_fragment, a_product, and_then, or_fault, type_at, raised_one, read, is_allowed, product_or, find_argument, applied_to}
-use Rattle.lp_kernel.specs.Walking.{argument_in, check_at, word_at_term, resumed, turned, context_of, find_at, sig_of, IsExtended, HasStepped}
+use Rattle.lp_kernel.specs.Walking.{argument_in, check_at, word_at_term, resumed, turned, context_of, find_at, IsExtended, HasStepped}
 use Rattle.lp_kernel.proofs.FrameLaws.{lambda_down, let_down, same_chosen, argument_down, context_length}
 use Rattle.lp_exact.proofs.PlaceLaws.{lifted_all, rename_same, plus_zero, plus_suc}
 use Rattle.lp_term.proofs.SubstitutionLaws.{ext, rename_rename}
@@ -49,16 +48,16 @@ cut_done base (x ∷ e) l h i = let z = ap length i in let y = length-append bas
 
 -- ---- an application's answer
 
-pub applied_found : (k r n : ℕ) (v a b w of value : Term) → is_allowed (simple_of a) (simple_of b) ≡ true → r ≡ rank_of (simple_of a) → n ≡ r + 1 → of ≡ put_at r w b → value ≡ apply_at n v w → Ok (typing of value) ≡ applied_to k v a b w
+pub applied_found : (k r n : ℕ) (v a b w of value : Term) → is_allowed (simple_of a) (simple_of b) ≡ true → r ≡ rank_of (simple_of a) → n ≡ r + 1 → of ≡ put_at r w b → value ≡ kept (simple_of b) (apply_at n v w) → Ok (typing of value) ≡ applied_to k v a b w
 applied_found k r n v a b w of value h e f i j =
     let g : n ≡ suc (rank_of (simple_of a)) = omega (arith, e, f) in
-    ap₂ (λ x y. Ok (typing x y)) (i ∙ ap (λ q. put_at q w b) e) (j ∙ ap (λ q. apply_at q v w) g) ∙
-    sym (same_chosen (is_allowed (simple_of a) (simple_of b)) (Ok (typing (put_at (rank_of (simple_of a)) w b) (apply_at (suc (rank_of (simple_of a))) v w))) (Err (out_of_fragment k)) h)
+    ap₂ (λ x y. Ok (typing x y)) (i ∙ ap (λ q. put_at q w b) e) (j ∙ ap (λ q. kept (simple_of b) (apply_at q v w)) g) ∙
+    sym (same_chosen (is_allowed (simple_of a) (simple_of b)) (Ok (typing (put_at (rank_of (simple_of a)) w b) (kept (simple_of b) (apply_at (suc (rank_of (simple_of a))) v w)))) (Err (out_of_fragment k)) h)
 
 -- ---- last arguments
 
-pub argument_steps : (z : ℕ) (sig : List Entry) (fs : List Frame) (l : List Lp) (of : Term) (u : Bor Lp) (v a b : Lp) (c k n level : ℕ) (f : Fault) (gs : List Frame) → level ≡ length l → pi (term_of a) (term_of b) ≡ opened of → n ≡ k + 1 + c → gs ≡ fs ++ (Last k n level v a b ∷ []) →
-    HasStepped sig fs l (product_or (opened of) (find_argument (read (sig_of sig) (term_of u.now)) c (context_of l) k (term_of v)) f) gs l (Down u n z)
+pub argument_steps : (z : ℕ) (sig : List Declaration) (fs : List Frame) (l : List Lp) (of : Term) (u : Bor Lp) (v a b : Lp) (c k n level : ℕ) (f : Fault) (gs : List Frame) → level ≡ length l → pi (term_of a) (term_of b) ≡ opened of → n ≡ k + 1 + c → gs ≡ fs ++ (Last k n level v a b ∷ []) →
+    HasStepped sig fs l (product_or (opened of) (find_argument (read sig (term_of u.now)) c (context_of l) k (term_of v)) f) gs l (Down u n z)
 argument_steps z sig fs l of u v a b c k n level f gs i e h g = record {
   same = ap (λ x. resumed x (find_at sig l (term_of u.now) n)) g ∙ ap (λ m. resumed (fs ++ (Last k m level v a b ∷ [])) (find_at sig l (term_of u.now) m)) h ∙ argument_down sig fs l of (term_of u.now) v a b c k level f i e;
   context = ([], sym (append-nil l));
@@ -68,8 +67,8 @@ product_none : (t : Term) (g : Term → Term → Result Typing Fault) (f : Fault
 product_none (pi a b) g f h = absurd (h a b refl)
 product_none t g f h = refl
 
-pub argument_stops : (sig : List Entry) (fs : List Frame) (l : List Lp) (of : Term) (u : Bor Lp) (v : Lp) (c k n level : ℕ) (found : Lp) → ((x y : Term) → opened of ≡ pi x y → ⊥) → level ≡ length l → n ≡ k + 1 → term_of found ≡ full of →
-    HasStepped sig fs l (product_or (opened of) (find_argument (read (sig_of sig) (term_of u.now)) c (context_of l) k (term_of v)) (ill_typed (k + 1) a_product (full of) (length (context_of l)))) fs l (Stop (Refused (IllTyped n Product found level)))
+pub argument_stops : (sig : List Declaration) (fs : List Frame) (l : List Lp) (of : Term) (u : Bor Lp) (v : Lp) (c k n level : ℕ) (found : Lp) → ((x y : Term) → opened of ≡ pi x y → ⊥) → level ≡ length l → n ≡ k + 1 → term_of found ≡ full of →
+    HasStepped sig fs l (product_or (opened of) (find_argument (read sig (term_of u.now)) c (context_of l) k (term_of v)) (ill_typed (k + 1) a_product (full of) (length (context_of l)))) fs l (Stop (Refused (IllTyped n Product found level)))
 argument_stops sig fs l of u v c k n level found h i e j = record {
   same = ap (λ x. resumed fs (Err (ill_typed x a_product (term_of found) level))) e ∙ ap₂ (λ x y. resumed fs (Err (ill_typed (k + 1) a_product x y))) j (i ∙ sym (context_length l)) ∙ ap (resumed fs) (sym (product_none (opened of) _ _ h));
   context = ([], sym (append-nil l));
@@ -126,7 +125,7 @@ variable_found l n k up i x r e f h g =
 
 -- ---- abstractions and lets
 
-pub lambda_steps : (z : ℕ) (sig : List Entry) (fs : List Frame) (l : List Lp) (a : Term) (b : Bor Lp) (x : Lp) (k n : ℕ) (gs : List Frame) (m old : List Lp) → old ≡ l → Ok (term_of x) ≡ check_at sig l a (k + 1) → n ≡ k + 1 + node_count a → gs ≡ fs ++ (Body k x ∷ []) → m ≡ old ++ (x ∷ []) →
+pub lambda_steps : (z : ℕ) (sig : List Declaration) (fs : List Frame) (l : List Lp) (a : Term) (b : Bor Lp) (x : Lp) (k n : ℕ) (gs : List Frame) (m old : List Lp) → old ≡ l → Ok (term_of x) ≡ check_at sig l a (k + 1) → n ≡ k + 1 + node_count a → gs ≡ fs ++ (Body k x ∷ []) → m ≡ old ++ (x ∷ []) →
     HasStepped sig fs l (find_at sig l (lam a (term_of b.now)) k) gs m (Down b n z)
 lambda_steps z sig fs l a b x k n gs m old o e h g i =
     let j : m ≡ l ++ (x ∷ []) = i ∙ ap (λ q. q ++ (x ∷ [])) o in
@@ -136,7 +135,7 @@ lambda_steps z sig fs l a b x k n gs m old o e h g i =
       context = (x ∷ [], j);
     }
 
-pub let_steps : (fin : ℕ) (sig : List Entry) (fs : List Frame) (l : List Lp) (a : Term) (b : Bor Lp) (u : Term) (x w : Lp) (k n at : ℕ) (gs : List Frame) (m old older : List Lp) → older ≡ l → old ≡ older → Ok (term_of x) ≡ check_at sig l a (k + 2) → at ≡ k + 1 + (1 + node_count a + node_count (term_of b.now)) →
+pub let_steps : (fin : ℕ) (sig : List Declaration) (fs : List Frame) (l : List Lp) (a : Term) (b : Bor Lp) (u : Term) (x w : Lp) (k n at : ℕ) (gs : List Frame) (m old older : List Lp) → older ≡ l → old ≡ older → Ok (term_of x) ≡ check_at sig l a (k + 2) → at ≡ k + 1 + (1 + node_count a + node_count (term_of b.now)) →
     Ok (term_of w) ≡ and_then (find_at sig older u at) (argument_in (length (context_of older)) at (term_of x)) → n ≡ k + 2 + node_count a → gs ≡ fs ++ (Within k x w ∷ []) → m ≡ old ++ (x ∷ []) →
     HasStepped sig fs l (find_at sig l (app (lam a (term_of b.now)) u) k) gs m (Down b n fin)
 let_steps fin sig fs l a b u x w k n at gs m old older o p e y z h g i =
@@ -151,11 +150,11 @@ let_steps fin sig fs l a b u x w k n at gs m old older o p e y z h g i =
 
 -- ---- what is no type
 
-pub none_found : (sig : List Entry) (l other : List Lp) (t : Term) (k level : ℕ) (of v found : Term) → Ok (typing of v) ≡ find_at sig l t k → found ≡ full of → level ≡ length other → other ≡ l → ◌≡◌ {A = Result Term Fault} (Err (ill_typed k a_sort found level)) (and_then (find_at sig l t k) (λ s. Err (ill_typed k a_sort (full s.of) (length (context_of l)))))
+pub none_found : (sig : List Declaration) (l other : List Lp) (t : Term) (k level : ℕ) (of v found : Term) → Ok (typing of v) ≡ find_at sig l t k → found ≡ full of → level ≡ length other → other ≡ l → ◌≡◌ {A = Result Term Fault} (Err (ill_typed k a_sort found level)) (and_then (find_at sig l t k) (λ s. Err (ill_typed k a_sort (full s.of) (length (context_of l)))))
 none_found sig l other t k level of v found e h i j =
     ap₂ (λ x n. Err (ill_typed k a_sort x n)) h (i ∙ ap length j ∙ sym (context_length l)) ∙ ap (λ r. and_then r (λ s. Err (ill_typed k a_sort (full s.of) (length (context_of l))))) e
 
-pub argument_bound : (sig : List Entry) (l other : List Lp) (u x : Term) (k level : ℕ) (of v : Term) → Ok (typing of v) ≡ find_at sig l u k → level ≡ length other → other ≡ l → argument_in level k x (typing of v) ≡ and_then (find_at sig l u k) (argument_in (length (context_of l)) k x)
+pub argument_bound : (sig : List Declaration) (l other : List Lp) (u x : Term) (k level : ℕ) (of v : Term) → Ok (typing of v) ≡ find_at sig l u k → level ≡ length other → other ≡ l → argument_in level k x (typing of v) ≡ and_then (find_at sig l u k) (argument_in (length (context_of l)) k x)
 argument_bound sig l other u x k level of v e i j =
     ap (λ n. argument_in n k x (typing of v)) (i ∙ ap length j ∙ sym (context_length l)) ∙ ap (λ r. and_then r (argument_in (length (context_of l)) k x)) e
 
@@ -164,9 +163,9 @@ plain_word sig Individuals x h i d k = absurd (h refl)
 plain_word sig Propositions x h i d k = absurd (i refl)
 plain_word sig w x h i d k = refl
 
-pub plain_symbol : (sig : List Entry) (l : List Lp) (t : Term) (x : List ℕ) (k : ℕ) → t ≡ con x → (word_of x ≡ Individuals → ⊥) → (word_of x ≡ Propositions → ⊥) → and_then (find_at sig l t k) (λ s. Err (ill_typed k a_sort (full s.of) (length (context_of l)))) ≡ check_at sig l t k
+pub plain_symbol : (sig : List Declaration) (l : List Lp) (t : Term) (x : List ℕ) (k : ℕ) → t ≡ con x → (word_of x ≡ Individuals → ⊥) → (word_of x ≡ Propositions → ⊥) → and_then (find_at sig l t k) (λ s. Err (ill_typed k a_sort (full s.of) (length (context_of l)))) ≡ check_at sig l t k
 plain_symbol sig l t x k e h i =
-    ap (λ y. and_then (find_at sig l y k) (λ s. Err (ill_typed k a_sort (full s.of) (length (context_of l))))) e ∙ sym (plain_word (sig_of sig) (word_of x) x h i (context_of l) k) ∙ ap (λ y. check_at sig l y k) (sym e)
+    ap (λ y. and_then (find_at sig l y k) (λ s. Err (ill_typed k a_sort (full s.of) (length (context_of l))))) e ∙ sym (plain_word sig (word_of x) x h i (context_of l) k) ∙ ap (λ y. check_at sig l y k) (sym e)
 
 word_no_prf : (sig : List Declaration) (w : Word) (x : List ℕ) → (w ≡ Prf → ⊥) → (read_symbol sig w x).is_prf ≡ false
 word_no_prf sig Individuals x h = refl
@@ -188,13 +187,13 @@ chosen_check : (b : Bool) (f g : List Term → ℕ → Result Term Fault) (d : L
 chosen_check true f g d k e = cc
 chosen_check false f g d k e = refl
 
-pub plain_applied : (sig : List Entry) (l : List Lp) (t f u : Term) (k : ℕ) → t ≡ app f u → (word_at_term f ≡ Prf → ⊥) → and_then (find_at sig l t k) (λ s. Err (ill_typed k a_sort (full s.of) (length (context_of l)))) ≡ check_at sig l t k
+pub plain_applied : (sig : List Declaration) (l : List Lp) (t f u : Term) (k : ℕ) → t ≡ app f u → (word_at_term f ≡ Prf → ⊥) → and_then (find_at sig l t k) (λ s. Err (ill_typed k a_sort (full s.of) (length (context_of l)))) ≡ check_at sig l t k
 plain_applied sig l t f u k e h =
-    let s = sig_of sig in
+    let s = sig in
     ap (λ y. and_then (find_at sig l y k) (λ s. Err (ill_typed k a_sort (full s.of) (length (context_of l))))) e ∙
     chosen_check ((read s f).is_prf) (check_prf (read s u)) (no_sort (find_applied ((read s f).parts) (read s f) (read s u) (node_count f))) (context_of l) k (no_prf s f h) ∙
     ap (λ y. check_at sig l y k) (sym e)
 
-pub plain_lambda : (sig : List Entry) (l : List Lp) (t a u : Term) (k : ℕ) → t ≡ lam a u → and_then (find_at sig l t k) (λ s. Err (ill_typed k a_sort (full s.of) (length (context_of l)))) ≡ check_at sig l t k
+pub plain_lambda : (sig : List Declaration) (l : List Lp) (t a u : Term) (k : ℕ) → t ≡ lam a u → and_then (find_at sig l t k) (λ s. Err (ill_typed k a_sort (full s.of) (length (context_of l)))) ≡ check_at sig l t k
 plain_lambda sig l t a u k e =
     ap (λ y. and_then (find_at sig l y k) (λ s. Err (ill_typed k a_sort (full s.of) (length (context_of l))))) e ∙ ap (λ y. check_at sig l y k) (sym e)

@@ -10,7 +10,7 @@ use Rattle.lp_exact.specs.Layers.{opened}
 use Rattle.lp_exact.specs.LazyTypes.{full}
 use Rattle.lp_exact.specs.Normalisation.{put_at, apply_at}
 use Rattle.lp_exact.specs.Objects.{Simple, simple_of}
-use Rattle.lp_kernel.specs.LazyJudgement.{rank_of}
+use Rattle.lp_kernel.specs.LazyJudgement.{kept, rank_of}
 
 -- what a place asks of a type
 pub data Wanted : Type 0 where
@@ -139,11 +139,11 @@ find_let p u c d k =
     and_then (u.find d (k + 1 + c)) (λ r.
     and_then (argument_at d (k + 1 + c) x r) (λ w.
     and_then (p.body (x ∷ d) (k + 2 + p.nodes)) (λ s.
-    within k x s.of (typing (put_at (rank_of (simple_of x)) w s.of) (put_at (rank_of (simple_of x)) w s.value))))))
+    within k x s.of (typing (put_at (rank_of (simple_of x)) w s.of) (kept (simple_of s.of) (put_at (rank_of (simple_of x)) w s.value)))))))
 
 -- the type and value of an application from those of its function
 abbrev pub applied_to : ℕ → Term → Term → Term → Term → Result Typing Fault
-applied_to k v a b w = within k a b (typing (put_at (rank_of (simple_of a)) w b) (apply_at (suc (rank_of (simple_of a))) v w))
+applied_to k v a b w = within k a b (typing (put_at (rank_of (simple_of a)) w b) (kept (simple_of b) (apply_at (suc (rank_of (simple_of a))) v w)))
 
 -- the argument of a function whose value and type are known
 abbrev pub find_argument : Reading → ℕ → List Term → ℕ → Term → Term → Term → Result Typing Fault

@@ -1,8 +1,10 @@
 pub mod Acceptance
 pub mod Answering
 pub mod Checking
+pub mod Counting
 pub mod Developments
 pub mod Judgement
 pub mod Laws
 pub mod LazyJudgement
+pub mod Signatures
 pub mod Walking

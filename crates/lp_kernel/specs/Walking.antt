@@ -4,7 +4,6 @@ use Rattle.lp_term.specs.LambdaPi.{Term, con, lam, pi}
 use Rattle.lp_term.specs.View.{term_of}
 use Rattle.lp_term.specs.Typing.{Declaration}
 use Rattle.lp_term.specs.declared.lp.Lp.{Lp, size-Lp}
-use Rattle.lp_kernel.specs.declared.finding.Entry.{Entry}
 use Rattle.lp_kernel.specs.Answering.{want_of}
 use Rattle.lp_kernel.specs.Developments.{Failure, bad_goal, bad_prelude, bad_symbol, in_goal}
 use Rattle.lp_kernel.specs.declared.finding.Rejection.{Rejection}
@@ -19,13 +18,15 @@ use Rattle.lp_kernel.specs.declared.finding.Frame.{Frame}
 use Rattle.lp_kernel.specs.declared.finding.Frame.TheVariants.{Body, Within, Last}
 use Rattle.lp_kernel.specs.declared.finding.Step.{Step}
 use Rattle.lp_kernel.specs.declared.finding.Step.TheVariants.{Down, Stop}
+use Rattle.lp_kernel.specs.declared.finding.TypeStep.{TypeStep}
+use Rattle.lp_kernel.specs.declared.finding.TypeStep.TheVariants.{Below, Reached}
 use Rattle.lp_exact.specs.declared.word.Word.{Word}
 use Rattle.lp_exact.specs.declared.word.Word.TheVariants.{Other}
 use Rattle.lp_exact.specs.Words.{word_of}
 use Rattle.lp_exact.specs.LazyTypes.{full}
 use Rattle.lp_exact.specs.Normalisation.{put_at}
 use Rattle.lp_exact.specs.Objects.{Simple, simple_size, simple_of}
-use Rattle.lp_kernel.specs.LazyJudgement.{rank_of}
+use Rattle.lp_kernel.specs.LazyJudgement.{kept, rank_of}
 use Rattle.lp_kernel.specs.Checking.{Wanted, exactly, a_product, a_sort, Fault, unknown_name, out_of_fragment, ill_typed, Typing, typing, node_count, same_term, and_then, within, applied_to, read}
 
 abbrev pub fault_of : Refusal → Fault
@@ -41,10 +42,6 @@ abbrev pub checked_of : Opening → Result Term Fault
 checked_of (Opened a) = Ok (term_of a)
 checked_of (Closed e) = Err (fault_of e)
 
-abbrev pub sig_of : List Entry → List Declaration
-sig_of [] = []
-sig_of (e ∷ l) = record { name = e.name; of = term_of e.of } ∷ sig_of l
-
 -- the program's context, outermost first, turned before what is given
 abbrev pub turned : List Lp → List Term → List Term
 turned [] d = d
@@ -53,11 +50,11 @@ turned (a ∷ l) d = turned l (term_of a ∷ d)
 abbrev pub context_of : List Lp → List Term
 context_of l = turned l []
 
-abbrev pub find_at : List Entry → List Lp → Term → ℕ → Result Typing Fault
-find_at sig l t k = (read (sig_of sig) t).find (context_of l) k
+abbrev pub find_at : List Declaration → List Lp → Term → ℕ → Result Typing Fault
+find_at sig l t k = (read sig t).find (context_of l) k
 
-abbrev pub check_at : List Entry → List Lp → Term → ℕ → Result Term Fault
-check_at sig l t k = (read (sig_of sig) t).check (context_of l) k
+abbrev pub check_at : List Declaration → List Lp → Term → ℕ → Result Term Fault
+check_at sig l t k = (read sig t).check (context_of l) k
 
 -- ---- what a frame does with what is found at the hole
 
@@ -65,7 +62,7 @@ abbrev pub lambda_found : ℕ → Term → Typing → Result Typing Fault
 lambda_found k x r = within k x r.of (typing (pi x r.of) (lam x r.value))
 
 abbrev pub let_found : ℕ → Term → Term → Typing → Result Typing Fault
-let_found k x w s = within k x s.of (typing (put_at (rank_of (simple_of x)) w s.of) (put_at (rank_of (simple_of x)) w s.value))
+let_found k x w s = within k x s.of (typing (put_at (rank_of (simple_of x)) w s.of) (kept (simple_of s.of) (put_at (rank_of (simple_of x)) w s.value)))
 
 -- `argument_at`, of whose context only the length counts
 abbrev pub argument_in : ℕ → ℕ → Term → Typing → Result Term Fault
@@ -86,7 +83,7 @@ resumed (f ∷ l) r = and_then (resumed l r) (continued f)
 
 -- ---- a step
 
-abbrev pub next_of : List Entry → List Lp → Step → Result Typing Fault
+abbrev pub next_of : List Declaration → List Lp → Step → Result Typing Fault
 next_of sig l (Down t k e) = find_at sig l (term_of t.now) k
 next_of sig l (Stop f) = found_of f
 
@@ -104,7 +101,7 @@ abbrev pub IsExtended : List Lp → List Lp → Type 0
 IsExtended l m = (e : List Lp) × (m ≡ l ++ e)
 
 -- from frames and a context where r is the answer, to others
-pub record HasStepped (sig : List Entry) (frames : List Frame) (l : List Lp) (r : Result Typing Fault) (newer : List Frame) (m : List Lp) (s : Step) : Type 0 where
+pub record HasStepped (sig : List Declaration) (frames : List Frame) (l : List Lp) (r : Result Typing Fault) (newer : List Frame) (m : List Lp) (s : Step) : Type 0 where
   pub same : resumed newer (next_of sig m s) ≡ resumed frames r
   pub context : IsExtended l m
 
@@ -112,9 +109,40 @@ abbrev pub size_of : Option Simple → Option ℕ
 size_of (Some a) = Some (simple_size a)
 size_of None = None
 
+-- the size of a simple type's products, whose domains so far count that much
+abbrev pub size_after : ℕ → Option ℕ → Option ℕ
+size_after domains (Some size) = Some (domains + size)
+size_after domains None = None
+
+-- the term is no product
+abbrev pub IsNoProduct : Term → Type 0
+IsNoProduct (pi a b) = ⊥
+IsNoProduct t = ⊤
+
 abbrev pub word_at_term : Term → Word
 word_at_term (con x) = word_of x
 word_at_term t = Other
+
+-- ---- a step down the right parts of products
+
+-- a type's answer from that of its last part, below these domains; the innermost is the last
+abbrev pub over_domains : List Lp → Result Term Fault → Result Term Fault
+over_domains [] r = r
+over_domains (x ∷ l) r = and_then (over_domains l r) (λ y. Ok (pi (term_of x) y))
+
+abbrev pub next_type : List Declaration → List Lp → TypeStep → Result Term Fault
+next_type sig l (Below t k) = check_at sig l (term_of t.now) k
+next_type sig l (Reached r) = checked_of r
+
+-- the step goes to a part of less than that depth, if to any
+abbrev pub IsLower : TypeStep → ℕ → Type 0
+IsLower (Below t k) n = size-Lp t.now < n
+IsLower (Reached r) n = ⊤
+
+-- from domains and a context where r is the answer, to others
+pub record HasDescended (sig : List Declaration) (domains : List Lp) (l : List Lp) (r : Result Term Fault) (newer : List Lp) (m : List Lp) (s : TypeStep) : Type 0 where
+  pub same : over_domains newer (next_type sig m s) ≡ over_domains domains r
+  pub context : IsExtended l m
 
 -- ---- what the program answers for a development
 

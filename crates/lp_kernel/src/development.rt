@@ -1,18 +1,19 @@
 //! The check of a development.
-ghost use Rattle.std.specs.Prelude.{◌≡◌, ◌++◌, ◌∷◌, [], IfOk, OnOk, Some};
+ghost use Rattle.std.specs.Prelude.{◌≡◌, ◌++◌, ◌∷◌, [], true, IfOk, OnOk, Some};
 ghost use Rattle.lp_term.specs.Connectives.{individuals};
-ghost use Rattle.lp_term.specs.Signature.{declaration, declarations, prelude_declarations};
+ghost use Rattle.lp_term.specs.Signature.{declarations, prelude_declarations};
 ghost use Rattle.lp_term.specs.View.{term_of};
 ghost use Rattle.lp_kernel.specs.Acceptance.{HasTypedGoal};
 ghost use Rattle.lp_kernel.specs.Checking.{same_term};
-ghost use Rattle.lp_kernel.specs.Checking as checking;
+ghost use Rattle.lp_kernel.specs.Signatures.{are_distinct, sig_of};
 ghost use Rattle.lp_kernel.specs.Developments as spec;
 ghost use Rattle.lp_kernel.specs.Answering.{IsFaultOf, IsVerdict};
-ghost use Rattle.lp_kernel.specs.Walking.{failure_of, failures_of, fault_of, sig_of};
+ghost use Rattle.lp_kernel.specs.Walking.{failure_of, failures_of, fault_of};
 
 use crate::fault::{CheckFault, Typed};
-use crate::finding::{Entry, Opening, Refusal, Rejection};
+use crate::finding::{Opening, Refusal, Rejection};
 use crate::lookup::next_number;
+use crate::signature::Signature;
 use crate::walk::{bound_value, check_type};
 use dk_syntax::{NoMemory, Seq};
 use lp_exact::same_tree;
@@ -86,72 +87,45 @@ fn is_constant_type(t: &Lp) -> bool
     }
 }
 
-/// Whether the symbol is declared.
-fn is_declared(sig: &[Entry], name: &Ident) -> bool
-    ensures { result ≡ checking.is_declared (sig_of sig.now) name.now }
-{
-    let mut rest = sig;
-    'entries: while let [entry, others @ ..] = rest {
-        if entry.name.as_bytes() == name.as_bytes() {
-            return true;
-        }
-        rest = others;
-    }
-    false
-}
-
 /// Whether the name is new, and not that of the goal.
-fn is_new(sig: &[Entry], name: &Ident) -> bool
+fn is_new(sig: &Signature, name: &Ident) -> bool
     ensures { result ≡ spec.is_new (sig_of sig.now) name.now }
 {
-    !is_declared(sig, name) && name.as_bytes() != b"goal".as_slice()
-}
-
-/// Declares the symbol after the others.
-fn declare(alloc: Global, entries: &mut Seq<Entry>, name: &Ident, of: &Lp) -> Result<(), NoMemory>
-    ensures { OnOk result (sig_of entries.new
-        ≡ sig_of entries.old ++ (declaration name.now (term_of of.now) ∷ [])) }
-{
-    let name = name.copy(alloc)?;
-    let of = of.copy(alloc)?;
-    entries.push(Entry { name, of })?;
-    Ok(())
+    !sig.declares(name) && name.as_bytes() != b"goal".as_slice()
 }
 
 /// Declares what the command does; a rule declares nothing.
-fn declare_command(
-    alloc: Global,
-    entries: &mut Seq<Entry>,
-    command: &Command,
-) -> Result<(), NoMemory>
-    ensures { OnOk result (sig_of entries.new
-        ≡ sig_of entries.old ++ declarations (command.now ∷ [])) }
+fn declare_command(alloc: Global, sig: &mut Signature, command: &Command) -> Result<(), NoMemory>
+    requires { are_distinct (sig_of sig.old ++ declarations (command.now ∷ [])) ≡ true }
+    ensures { OnOk result (sig_of sig.new ≡ sig_of sig.old ++ declarations (command.now ∷ [])) }
 {
     match command {
-        Command::Constant(name, of) => declare(alloc, entries, name, of),
-        Command::Symbol(name, of) => declare(alloc, entries, name, of),
-        Command::Define(name, of, _) => declare(alloc, entries, name, of),
+        Command::Constant(name, of) => sig.declare(alloc, name, of),
+        Command::Symbol(name, of) => sig.declare(alloc, name, of),
+        Command::Define(name, of, _) => sig.declare(alloc, name, of),
         Command::Rule(_, _) => Ok(()),
     }
 }
 
-/// What the commands declare.
-fn entries_of(alloc: Global, commands: &[Command]) -> Result<Seq<Entry>, NoMemory>
+/// What the commands declare, none of it twice.
+#[tactic(auto, using(crate::proofs::SignatureLaws::distinct_first))]
+fn signature_of(alloc: Global, commands: &[Command]) -> Result<Signature, NoMemory>
+    requires { are_distinct (declarations commands.now) ≡ true }
     ensures { IfOk result (λ r. sig_of r ≡ declarations commands.now) }
 {
-    let mut entries = Seq::from_vec(Vec::new(alloc));
+    let mut sig = Signature::new(alloc);
     let mut rest = commands;
     'commands: while let [command, others @ ..] = rest {
-        declare_command(alloc, &mut entries, command)?;
+        declare_command(alloc, &mut sig, command)?;
         rest = others;
     }
-    Ok(entries)
+    Ok(sig)
 }
 
 /// The first failure of a goal's type and body after these symbols.
 fn goal_failure(
     alloc: Global,
-    sig: &[Entry],
+    sig: &Signature,
     of: &Lp,
     body: &Lp,
 ) -> Result<Option<Rejection>, NoMemory>
@@ -171,7 +145,7 @@ fn goal_failure(
 /// The first failure of a definition before the other commands.
 fn definition_failure(
     alloc: Global,
-    sig: &[Entry],
+    sig: &Signature,
     number: u32,
     name: &Ident,
     of: &Lp,
@@ -193,7 +167,7 @@ fn definition_failure(
 /// The first failure of the commands after the prelude.
 fn failure_after(
     alloc: Global,
-    sig: Seq<Entry>,
+    sig: Signature,
     first: u32,
     commands: &[Command],
 ) -> Result<Option<Rejection>, NoMemory>
@@ -206,23 +180,15 @@ fn failure_after(
     'constants: while let [command, others @ ..] = rest {
         match command {
             Command::Constant(name, of) => {
-                if !(is_new(entries.as_slice(), name) && is_constant_type(of)) {
+                if !(is_new(&entries, name) && is_constant_type(of)) {
                     return Ok(Some(Rejection::BadSymbol(number)));
                 }
-                declare(alloc, &mut entries, name, of)?;
+                entries.declare(alloc, name, of)?;
                 number = next_number(number)?;
                 rest = others;
             }
             Command::Define(name, of, body) => {
-                return definition_failure(
-                    alloc,
-                    entries.as_slice(),
-                    number,
-                    name,
-                    of,
-                    body,
-                    others,
-                );
+                return definition_failure(alloc, &entries, number, name, of, body, others);
             }
             Command::Symbol(_, _) => return Ok(Some(Rejection::BadGoal(number))),
             Command::Rule(_, _) => return Ok(Some(Rejection::BadGoal(number))),
@@ -234,7 +200,7 @@ fn failure_after(
 /// The first failure of commands that are to begin with the expected ones.
 fn failure_from(
     alloc: Global,
-    sig: Seq<Entry>,
+    sig: Signature,
     expected: &[Command],
     commands: &[Command],
 ) -> Result<Option<Rejection>, NoMemory>
@@ -263,7 +229,7 @@ fn first_failure(alloc: Global, commands: &[Command]) -> Result<Option<Rejection
     ensures { IfOk result (λ r. failures_of r ≡ spec.first_failure commands.now) }
 {
     let expected = prelude(alloc)?;
-    let sig = entries_of(alloc, expected.as_slice())?;
+    let sig = signature_of(alloc, expected.as_slice())?;
     failure_from(alloc, sig, expected.as_slice(), commands)
 }
 

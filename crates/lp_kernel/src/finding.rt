@@ -2,13 +2,6 @@
 use crate::fault::Want;
 use lp_term::{Ident, Lp};
 
-/// A declared symbol with its lazy type.
-#[derive(Drop)]
-pub struct Entry {
-    pub name: Ident,
-    pub of: Lp,
-}
-
 /// Why a term is refused, at a node.
 #[derive(Drop)]
 pub enum Refusal {
@@ -51,6 +44,12 @@ pub enum Frame {
 pub enum Step<'a> {
     Down(&'a Lp, u64, u64),
     Stop(Finding),
+}
+
+/// A step down the right parts of products: the next part and its node; or what the last part is.
+pub enum TypeStep<'a> {
+    Below(&'a Lp, u64),
+    Reached(Opening),
 }
 
 /// Why a development is not accepted. Commands are counted from 1.

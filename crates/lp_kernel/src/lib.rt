@@ -8,8 +8,9 @@
 //! `specs/Checking` the same as a function, with its first fault, and `specs/Developments` the form
 //! of a development. `laws` has what holds of them.
 //!
-//! Right spines of terms are walked by a loop, into other parts `check` calls itself, and a symbol is
-//! sought among all that are declared before it.
+//! Right spines of terms and second parts of products are walked by loops, into other parts `check`
+//! calls itself. A symbol is looked up by a hash of its name. Of an object the normal form is kept as
+//! its value; of a proof none is made.
 //!
 //! Laws for the crates above stand in `laws` (each one's contract is a law) and in these files of
 //! `proofs/`: `AcceptanceLaws` and `GoalLaws` (accepted developments, the goal's type and body),
@@ -17,12 +18,15 @@
 //! `AnsweredLaws` and `DecisionLaws` (what the first fault can be).
 #![tactic(auto)]
 
+mod count;
 mod development;
 mod fault;
 mod finding;
 pub mod laws;
 mod lookup;
+mod products;
 mod resume;
+mod signature;
 mod walk;
 
 pub use development::check;

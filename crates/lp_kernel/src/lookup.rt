@@ -3,9 +3,11 @@ ghost use Rattle.std.specs.Prelude.{◌≡◌, ◌+◌, IfOk, List, Ok};
 ghost use Rattle.lp_term.specs.LambdaPi.{Term, con, var};
 ghost use Rattle.lp_exact.specs.Words.{word_of};
 ghost use Rattle.lp_kernel.specs.Checking.{and_then, declared, or_fault, out_of_fragment, read_symbol, type_at, typing, unknown_name};
-ghost use Rattle.lp_kernel.specs.Walking.{context_of, found_of, sig_of};
+ghost use Rattle.lp_kernel.specs.Signatures.{sig_of};
+ghost use Rattle.lp_kernel.specs.Walking.{context_of, found_of};
 
-use crate::finding::{Entry, Finding, Refusal};
+use crate::finding::{Finding, Refusal};
+use crate::signature::Signature;
 use dk_syntax::NoMemory;
 use lp_exact::{Word, word_named};
 use lp_term::{Ident, Lp, lift};
@@ -40,26 +42,29 @@ pub(crate) fn find_variable(
 }
 
 /// A declared symbol's type, or that it is not declared.
-fn find_declared(alloc: Global, sig: &[Entry], name: &Ident, node: u64) -> Result<Finding, NoMemory>
+fn find_declared(
+    alloc: Global,
+    sig: &Signature,
+    name: &Ident,
+    node: u64,
+) -> Result<Finding, NoMemory>
     ensures { IfOk result (λ r. found_of r ≡ and_then
         (or_fault (declared (sig_of sig.now) name.now) (unknown_name node name.now))
         (λ a. Ok (typing a (con name.now)))) }
 {
-    let mut rest = sig;
-    'entries: while let [entry, others @ ..] = rest {
-        if entry.name.as_bytes() == name.as_bytes() {
-            let of = entry.of.copy(alloc)?;
-            return Ok(Finding::Typed(of, Lp::Sym(name.copy(alloc)?)));
+    match sig.type_of(name) {
+        Some(of) => {
+            let of = of.copy(alloc)?;
+            Ok(Finding::Typed(of, Lp::Sym(name.copy(alloc)?)))
         }
-        rest = others;
+        None => Ok(Finding::Refused(Refusal::UnknownName(node, name.copy(alloc)?))),
     }
-    Ok(Finding::Refused(Refusal::UnknownName(node, name.copy(alloc)?)))
 }
 
 /// A symbol's type, or why it has none.
 pub(crate) fn find_symbol(
     alloc: Global,
-    sig: &[Entry],
+    sig: &Signature,
     name: &Ident,
     node: u64,
 ) -> Result<Finding, NoMemory>

@@ -1,11 +1,13 @@
 //! What a frame does with what is found at its hole.
 ghost use Rattle.std.specs.Prelude.{◌≡◌, ◌+◌, suc, Option, ◌∷◌, [], IfOk};
 ghost use Rattle.lp_term.specs.View.{term_of};
-ghost use Rattle.lp_exact.specs.Objects.{Simple, simple_of_both, simple_of};
-ghost use Rattle.lp_kernel.specs.LazyJudgement.{rank_of};
+ghost use Rattle.lp_exact.specs.Objects.{simple_of, simple_of_word};
+ghost use Rattle.lp_exact.specs.Normalisation.{apply_at, put_at};
+ghost use Rattle.lp_kernel.specs.LazyJudgement.{kept, rank_of};
 ghost use Rattle.lp_kernel.specs.Checking.{applied_to, is_allowed, typing};
-ghost use Rattle.lp_kernel.specs.Walking.{argument_in, checked_of, continued, found_of, lambda_found, last_found, let_found, resumed, size_of};
+ghost use Rattle.lp_kernel.specs.Walking.{argument_in, checked_of, continued, found_of, lambda_found, last_found, let_found, resumed, size_after, size_of};
 
+use crate::count::added;
 use crate::fault::Want;
 use crate::finding::{Finding, Frame, Opening, Refusal};
 use dk_syntax::{NoMemory, Seq};
@@ -13,42 +15,35 @@ use lp_exact::{Word, apply_reduced, full_type, put_last, same_lazy, word_named};
 use lp_term::{Lp, lambda, product};
 use std::alloc::Global;
 
-/// The sum; past `u64` it is want of memory.
-pub fn added(a: u64, b: u64) -> Result<u64, NoMemory>
-    ensures { IfOk result (λ n. n ≡ a + b) }
-{
-    a.checked_add(b).ok_or(NoMemory)
-}
-
-/// The size of a product of simple types.
-fn both_sizes(a: Option<u64>, b: Option<u64>) -> Result<Option<u64>, NoMemory>
-    ensures { (x y : Option Simple) → a ≡ size_of x → b ≡ size_of y → IfOk result
-        (λ r. r ≡ size_of (simple_of_both x y)) }
-{
-    match (a, b) {
-        (Some(a), Some(b)) => {
-            let sum = added(a, b)?;
-            Ok(Some(added(sum, 1)?))
-        }
-        _ => Ok(None),
-    }
-}
-
-/// The size of a simple type.
+/// The size of a simple type. The right spine of products is walked by a loop.
 fn size_of_simple(t: &Lp) -> Result<Option<u64>, NoMemory>
     ensures { IfOk result (λ r. r ≡ size_of (simple_of (term_of t.now))) }
 {
-    match t {
-        Lp::Sym(name) => match word_named(name) {
-            Word::Individuals => Ok(Some(1)),
-            Word::Propositions => Ok(Some(1)),
-            _ => Ok(None),
-        },
-        Lp::Pi(a, b) => {
-            let a = size_of_simple(a.get())?;
-            let b = size_of_simple(b.get())?;
-            both_sizes(a, b)
+    let mut domains: u64 = 0;
+    let mut rest = t;
+    'codomains: loop {
+        match rest {
+            Lp::Sym(name) => return size_with(domains, word_named(name)),
+            Lp::Pi(a, b) => match size_of_simple(a.get())? {
+                None => return Ok(None),
+                Some(size) => {
+                    let both = added(domains, size)?;
+                    domains = added(both, 1)?;
+                    rest = b.get();
+                }
+            },
+            _ => return Ok(None),
         }
+    }
+}
+
+/// The size of a simple type that ends in a word, after domains of that size.
+fn size_with(domains: u64, word: Word) -> Result<Option<u64>, NoMemory>
+    ensures { IfOk result (λ r. r ≡ size_after domains (size_of (simple_of_word word))) }
+{
+    match word {
+        Word::Individuals => Ok(Some(added(domains, 1)?)),
+        Word::Propositions => Ok(Some(added(domains, 1)?)),
         _ => Ok(None),
     }
 }
@@ -88,6 +83,17 @@ fn lambda_of(alloc: Global, node: u64, x: Lp, of: Lp, value: Lp) -> Result<Findi
     Ok(Finding::Typed(of, value))
 }
 
+/// The value of a let whose body has that type and value. None is kept of a proof.
+fn let_value(alloc: Global, rank: u64, of: &Lp, value: &Lp, by: &Lp) -> Result<Lp, NoMemory>
+    ensures { IfOk result (λ r. term_of r ≡ kept (simple_of (term_of of.now))
+        (put_at rank (term_of by.now) (term_of value.now))) }
+{
+    match size_of_simple(of)? {
+        Some(_) => put_last(alloc, rank, value, by),
+        None => Ok(Lp::Sort),
+    }
+}
+
 /// What a let has, from what its body has.
 fn let_of(
     alloc: Global,
@@ -104,8 +110,8 @@ fn let_of(
         return Ok(Finding::Refused(Refusal::OutOfFragment(node)));
     }
     let rank = rank(x)?;
+    let value = let_value(alloc, rank, of, value, by)?;
     let of = put_last(alloc, rank, of, by)?;
-    let value = put_last(alloc, rank, value, by)?;
     Ok(Finding::Typed(of, value))
 }
 
@@ -129,6 +135,18 @@ pub fn argument_value(
     Ok(Opening::Closed(Refusal::IllTyped(node, Want::Exactly(wanted), found, level)))
 }
 
+/// The value of an application whose type, the argument not put in, is that. None is kept of a
+/// proof.
+fn applied_value(alloc: Global, rank: u64, of: &Lp, function: Lp, by: Lp) -> Result<Lp, NoMemory>
+    ensures { IfOk result (λ r. term_of r ≡ kept (simple_of (term_of of.now))
+        (apply_at rank (term_of function) (term_of by))) }
+{
+    match size_of_simple(of)? {
+        Some(_) => apply_reduced(alloc, rank, function, by),
+        None => Ok(Lp::Sort),
+    }
+}
+
 /// What an application has, from its function's and its argument's value.
 fn applied_of(
     alloc: Global,
@@ -147,7 +165,7 @@ fn applied_of(
     let rank = rank(a)?;
     let of = put_last(alloc, rank, b, &by)?;
     let next = added(rank, 1)?;
-    let value = apply_reduced(alloc, next, function, by)?;
+    let value = applied_value(alloc, next, b, function, by)?;
     Ok(Finding::Typed(of, value))
 }
 

@@ -9,36 +9,20 @@ ghost use Rattle.lp_exact.specs.Layers.{opened};
 ghost use Rattle.lp_exact.specs.Opened.{HasOpened};
 ghost use Rattle.lp_exact.specs.Words.{word_of};
 ghost use Rattle.lp_kernel.specs.Checking.{a_product, a_sort, and_then, node_count, declared, find_app, find_argument, ill_typed, or_fault, out_of_fragment, product_or, read, read_symbol, type_at, typing, check_prf, unknown_name};
-ghost use Rattle.lp_kernel.specs.Walking.{HasEnd, IsExtended, IsSmaller, HasStepped, argument_in, check_at, checked_of, context_of, find_at, found_of, let_found, sig_of, word_at_term};
+ghost use Rattle.lp_kernel.specs.Signatures.{sig_of};
+ghost use Rattle.lp_kernel.specs.Walking.{HasDescended, HasEnd, IsExtended, IsLower, IsNoProduct, IsSmaller, HasStepped, argument_in, check_at, checked_of, context_of, find_at, found_of, let_found, word_at_term};
 
+use crate::count::{added, nodes_of};
 use crate::fault::Want;
-use crate::finding::{Entry, Finding, Frame, Opening, Refusal, Step};
+use crate::finding::{Finding, Frame, Opening, Refusal, Step, TypeStep};
 use crate::lookup::{find_symbol, find_variable};
-use crate::resume::{added, argument_value, resume_all};
+use crate::products::{enter_codomain, products_of};
+use crate::resume::{argument_value, resume_all};
+use crate::signature::Signature;
 use dk_syntax::{NoMemory, Seq};
 use lp_exact::{Word, full_type, open_layer, word_named};
-use lp_term::{Lp, product, proof_type, symbol};
+use lp_term::{Lp, proof_type, symbol};
 use std::alloc::Global;
-
-/// How many nodes a term with two parts has.
-fn joined(a: u64, b: u64) -> Result<u64, NoMemory>
-    ensures { IfOk result (λ n. n ≡ 1 + a + b) }
-{
-    let one = added(a, 1)?;
-    added(one, b)
-}
-
-/// How many nodes a term has.
-fn nodes_of(t: &Lp) -> Result<u64, NoMemory>
-    ensures { IfOk result (λ n. n ≡ node_count (term_of t.now)) }
-{
-    match t {
-        Lp::App(a, b) => joined(nodes_of(a.get())?, nodes_of(b.get())?),
-        Lp::Lam(a, b) => joined(nodes_of(a.get())?, nodes_of(b.get())?),
-        Lp::Pi(a, b) => joined(nodes_of(a.get())?, nodes_of(b.get())?),
-        _ => Ok(1),
-    }
-}
 
 /// The context, cut to a length that it had.
 fn cut(types: &mut Seq<Lp>, level: usize)
@@ -99,7 +83,7 @@ fn shown<'a>(t: &'a Lp, layer: &'a Option<Lp>) -> &'a Lp
 /// Into the last argument of an application whose function has that type and value.
 fn enter_argument<'a>(
     alloc: Global,
-    sig: &[Entry],
+    sig: &Signature,
     types: &Seq<Lp>,
     frames: &mut Seq<Frame>,
     nodes: u64,
@@ -110,7 +94,7 @@ fn enter_argument<'a>(
     end: u64,
 ) -> Result<Step<'a>, NoMemory>
     requires ends { end ≡ node + 1 + nodes + node_count (term_of argument.now) }
-    ensures same { IfOk result (λ s. HasStepped sig.now frames.old types.now
+    ensures same { IfOk result (λ s. HasStepped (sig_of sig.now) frames.old types.now
         (product_or (opened (term_of of)) (find_argument
         (read (sig_of sig.now) (term_of argument.now)) nodes (context_of types.now) node
         (term_of value)) (ill_typed (node + 1) a_product (full (term_of of))
@@ -144,7 +128,7 @@ fn enter_argument<'a>(
 #[cycle(find)]
 fn step_lambda<'a>(
     alloc: Global,
-    sig: &[Entry],
+    sig: &Signature,
     types: &mut Seq<Lp>,
     frames: &mut Seq<Frame>,
     domain: &Lp,
@@ -154,9 +138,9 @@ fn step_lambda<'a>(
 ) -> Result<Step<'a>, NoMemory>
     requires ends { end ≡ node + (1 + node_count (term_of domain.now) + node_count
         (term_of body.now)) }
-    ensures same { IfOk result (λ s. HasStepped sig.now frames.old types.old
-        (find_at sig.now types.old (lam (term_of domain.now) (term_of body.now)) node) frames.new
-        types.new s) }
+    ensures same { IfOk result (λ s. HasStepped (sig_of sig.now) frames.old types.old
+        (find_at (sig_of sig.now) types.old (lam (term_of domain.now) (term_of body.now)) node)
+        frames.new types.new s) }
     ensures small { IfOk result (λ s. IsSmaller s (suc (size-Lp body.now))) }
     ensures ends { IfOk result (λ s. HasEnd s) }
 {
@@ -164,7 +148,7 @@ fn step_lambda<'a>(
     match check_type(alloc, sig, types, domain, first)? {
         Opening::Closed(refusal) => Ok(Step::Stop(Finding::Refused(refusal))),
         Opening::Opened(x) => {
-            let nodes = nodes_of(domain)?;
+            let nodes = nodes_of(alloc, domain)?;
             let next = added(first, nodes)?;
             enter_body(alloc, types, frames, node, x)?;
             Ok(Step::Down(body, next, end))
@@ -176,14 +160,14 @@ fn step_lambda<'a>(
 #[cycle(find)]
 pub(crate) fn bound_value(
     alloc: Global,
-    sig: &[Entry],
+    sig: &Signature,
     types: &mut Seq<Lp>,
     x: &Lp,
     argument: &Lp,
     node: u64,
 ) -> Result<Opening, NoMemory>
     ensures value { IfOk result (λ r. checked_of r ≡ and_then
-        (find_at sig.now types.old (term_of argument.now) node)
+        (find_at (sig_of sig.now) types.old (term_of argument.now) node)
         (argument_in (length (context_of types.old)) node (term_of x.now))) }
     ensures kept { OnOk result (types.new ≡ types.old) }
 {
@@ -197,7 +181,7 @@ pub(crate) fn bound_value(
 #[cycle(find)]
 fn step_let<'a>(
     alloc: Global,
-    sig: &[Entry],
+    sig: &Signature,
     types: &mut Seq<Lp>,
     frames: &mut Seq<Frame>,
     domain: &Lp,
@@ -208,8 +192,8 @@ fn step_let<'a>(
 ) -> Result<Step<'a>, NoMemory>
     requires ends { end ≡ node + (1 + (1 + node_count (term_of domain.now) + node_count
         (term_of body.now)) + node_count (term_of argument.now)) }
-    ensures same { IfOk result (λ s. HasStepped sig.now frames.old types.old
-        (find_at sig.now types.old (app (lam (term_of domain.now) (term_of body.now))
+    ensures same { IfOk result (λ s. HasStepped (sig_of sig.now) frames.old types.old
+        (find_at (sig_of sig.now) types.old (app (lam (term_of domain.now) (term_of body.now))
         (term_of argument.now)) node) frames.new types.new s) }
     ensures small { IfOk result (λ s. IsSmaller s (suc (size-Lp body.now))) }
     ensures ends { IfOk result (λ s. HasEnd s) }
@@ -218,8 +202,8 @@ fn step_let<'a>(
     match check_type(alloc, sig, types, domain, second)? {
         Opening::Closed(refusal) => Ok(Step::Stop(Finding::Refused(refusal))),
         Opening::Opened(x) => {
-            let first = nodes_of(domain)?;
-            let own = nodes_of(argument)?;
+            let first = nodes_of(alloc, domain)?;
+            let own = nodes_of(alloc, argument)?;
             let at = end - own;
             match bound_value(alloc, sig, types, &x, argument, at)? {
                 Opening::Closed(refusal) => Ok(Step::Stop(Finding::Refused(refusal))),
@@ -237,7 +221,7 @@ fn step_let<'a>(
 #[cycle(find)]
 fn step_argument<'a>(
     alloc: Global,
-    sig: &[Entry],
+    sig: &Signature,
     types: &mut Seq<Lp>,
     frames: &mut Seq<Frame>,
     function: &Lp,
@@ -247,7 +231,7 @@ fn step_argument<'a>(
 ) -> Result<Step<'a>, NoMemory>
     requires ends { end ≡ node + (1 + node_count (term_of function.now) + node_count
         (term_of argument.now)) }
-    ensures same { IfOk result (λ s. HasStepped sig.now frames.old types.old
+    ensures same { IfOk result (λ s. HasStepped (sig_of sig.now) frames.old types.old
         (find_app (read (sig_of sig.now) (term_of function.now))
         (read (sig_of sig.now) (term_of argument.now)) (node_count (term_of function.now))
         (context_of types.old) node) frames.new types.new s) }
@@ -258,7 +242,7 @@ fn step_argument<'a>(
     match find(alloc, sig, types, function, first)? {
         Finding::Refused(refusal) => Ok(Step::Stop(Finding::Refused(refusal))),
         Finding::Typed(of, value) => {
-            let nodes = nodes_of(function)?;
+            let nodes = nodes_of(alloc, function)?;
             enter_argument(
                 alloc, sig, types, frames, nodes, argument, node, of, value, end,
             )
@@ -270,7 +254,7 @@ fn step_argument<'a>(
 #[cycle(find)]
 fn step_applied<'a>(
     alloc: Global,
-    sig: &[Entry],
+    sig: &Signature,
     types: &mut Seq<Lp>,
     frames: &mut Seq<Frame>,
     function: &'a Lp,
@@ -280,9 +264,9 @@ fn step_applied<'a>(
 ) -> Result<Step<'a>, NoMemory>
     requires ends { end ≡ node + (1 + node_count (term_of function.now) + node_count
         (term_of argument.now)) }
-    ensures same { IfOk result (λ s. HasStepped sig.now frames.old types.old
-        (find_at sig.now types.old (app (term_of function.now) (term_of argument.now)) node)
-        frames.new types.new s) }
+    ensures same { IfOk result (λ s. HasStepped (sig_of sig.now) frames.old types.old
+        (find_at (sig_of sig.now) types.old
+        (app (term_of function.now) (term_of argument.now)) node) frames.new types.new s) }
     ensures small { IfOk result (λ s. IsSmaller s
         (suc (max (size-Lp function.now) (size-Lp argument.now)))) }
     ensures ends { IfOk result (λ s. HasEnd s) }
@@ -307,7 +291,7 @@ fn step_applied<'a>(
 #[cycle(find)]
 fn step<'a>(
     alloc: Global,
-    sig: &[Entry],
+    sig: &Signature,
     types: &mut Seq<Lp>,
     frames: &mut Seq<Frame>,
     rest: &'a Lp,
@@ -315,8 +299,8 @@ fn step<'a>(
     end: u64,
 ) -> Result<Step<'a>, NoMemory>
     requires ends { end ≡ node + node_count (term_of rest.now) }
-    ensures same { IfOk result (λ s. HasStepped sig.now frames.old types.old
-        (find_at sig.now types.old (term_of rest.now) node) frames.new types.new s) }
+    ensures same { IfOk result (λ s. HasStepped (sig_of sig.now) frames.old types.old
+        (find_at (sig_of sig.now) types.old (term_of rest.now) node) frames.new types.new s) }
     ensures small { IfOk result (λ s. IsSmaller s (size-Lp rest.now)) }
     ensures ends { IfOk result (λ s. HasEnd s) }
 {
@@ -353,19 +337,20 @@ fn step<'a>(
 #[cycle(find)]
 pub(crate) fn find(
     alloc: Global,
-    sig: &[Entry],
+    sig: &Signature,
     types: &mut Seq<Lp>,
     t: &Lp,
     node: u64,
 ) -> Result<Finding, NoMemory>
-    ensures found { IfOk result (λ r. found_of r ≡ find_at sig.now types.old (term_of t.now) node) }
+    ensures found { IfOk result (λ r. found_of r
+        ≡ find_at (sig_of sig.now) types.old (term_of t.now) node) }
     ensures kept { OnOk result (types.new ≡ types.old) }
 {
     let level = types.len();
     let mut frames = Seq::from_vec(Vec::new(alloc));
     let mut rest = t;
     let mut number = node;
-    let nodes = nodes_of(t)?;
+    let nodes = nodes_of(alloc, t)?;
     let mut end = added(node, nodes)?;
     'down: loop {
         match step(alloc, sig, types, &mut frames, rest, number, end)? {
@@ -386,13 +371,13 @@ pub(crate) fn find(
 #[cycle(find)]
 fn check_none(
     alloc: Global,
-    sig: &[Entry],
+    sig: &Signature,
     types: &mut Seq<Lp>,
     t: &Lp,
     node: u64,
 ) -> Result<Opening, NoMemory>
     ensures found { IfOk result (λ r. checked_of r ≡ and_then
-        (find_at sig.now types.old (term_of t.now) node)
+        (find_at (sig_of sig.now) types.old (term_of t.now) node)
         (λ s. Err (ill_typed node a_sort (full s.of) (length (context_of types.old))))) }
     ensures kept { OnOk result (types.new ≡ types.old) }
 {
@@ -409,7 +394,7 @@ fn check_none(
 #[cycle(find)]
 fn check_proof(
     alloc: Global,
-    sig: &[Entry],
+    sig: &Signature,
     types: &mut Seq<Lp>,
     object: &Lp,
     node: u64,
@@ -426,75 +411,46 @@ fn check_proof(
     }
 }
 
-/// A product type from the opening of its second part.
-fn product_opening(alloc: Global, x: Lp, opening: Opening) -> Result<Opening, NoMemory>
-    ensures { IfOk result (λ r. checked_of r ≡ and_then (checked_of opening)
-        (λ y. Ok (pi (term_of x) y))) }
-{
-    match opening {
-        Opening::Closed(refusal) => Ok(Opening::Closed(refusal)),
-        Opening::Opened(y) => Ok(Opening::Opened(product(alloc, x, y)?)),
-    }
-}
-
-/// The lazy type of a type below a binder.
+/// A step at a product: its first part, and into the second one.
 #[cycle(find)]
-fn check_below(
+fn step_product<'a>(
     alloc: Global,
-    sig: &[Entry],
+    sig: &Signature,
     types: &mut Seq<Lp>,
-    x: &Lp,
-    t: &Lp,
-    node: u64,
-) -> Result<Opening, NoMemory>
-    ensures found { IfOk result (λ r. checked_of r ≡ (read (sig_of sig.now) (term_of t.now)).check
-        (term_of x.now ∷ context_of types.old) node) }
-    ensures kept { OnOk result (types.new ≡ types.old) }
-{
-    let level = types.len();
-    types.push(x.copy(alloc)?)?;
-    let opening = check_type(alloc, sig, types, t, node)?;
-    cut(types, level);
-    Ok(opening)
-}
-
-/// The lazy type of a product.
-#[cycle(find)]
-fn check_product(
-    alloc: Global,
-    sig: &[Entry],
-    types: &mut Seq<Lp>,
+    domains: &mut Seq<Lp>,
     a: &Lp,
-    b: &Lp,
+    b: &'a Lp,
     node: u64,
-) -> Result<Opening, NoMemory>
-    ensures found { IfOk result (λ r. checked_of r ≡ check_at sig.now types.old
-        (pi (term_of a.now) (term_of b.now)) node) }
-    ensures kept { OnOk result (types.new ≡ types.old) }
+) -> Result<TypeStep<'a>, NoMemory>
+    ensures same { IfOk result (λ s. HasDescended (sig_of sig.now) domains.old types.old
+        (check_at (sig_of sig.now) types.old (pi (term_of a.now) (term_of b.now)) node) domains.new
+        types.new s) }
+    ensures small { IfOk result (λ s. IsLower s (suc (size-Lp b.now))) }
 {
     let first = added(node, 1)?;
     match check_type(alloc, sig, types, a, first)? {
-        Opening::Closed(refusal) => Ok(Opening::Closed(refusal)),
+        Opening::Closed(refusal) => Ok(TypeStep::Reached(Opening::Closed(refusal))),
         Opening::Opened(x) => {
-            let nodes = nodes_of(a)?;
+            let nodes = nodes_of(alloc, a)?;
             let next = added(first, nodes)?;
-            let opening = check_below(alloc, sig, types, &x, b, next)?;
-            product_opening(alloc, x, opening)
+            enter_codomain(alloc, types, domains, x)?;
+            Ok(TypeStep::Below(b, next))
         }
     }
 }
 
-/// The lazy type of a type, or the first fault.
+/// The lazy type of a type that is no product.
 #[cycle(find)]
-pub(crate) fn check_type(
+fn check_last(
     alloc: Global,
-    sig: &[Entry],
+    sig: &Signature,
     types: &mut Seq<Lp>,
     t: &Lp,
     node: u64,
 ) -> Result<Opening, NoMemory>
-    ensures found { IfOk result (λ r. checked_of r ≡ check_at sig.now types.old (term_of t.now)
-        node) }
+    requires last { IsNoProduct (term_of t.now) }
+    ensures found { IfOk result (λ r. checked_of r
+        ≡ check_at (sig_of sig.now) types.old (term_of t.now) node) }
     ensures kept { OnOk result (types.new ≡ types.old) }
 {
     match t {
@@ -507,11 +463,65 @@ pub(crate) fn check_type(
             Word::Prf => check_proof(alloc, sig, types, object.get(), node),
             _ => check_none(alloc, sig, types, t, node),
         },
-        Lp::Pi(a, b) => check_product(alloc, sig, types, a.get(), b.get(), node),
+        Lp::Pi(_, _) => check_none(alloc, sig, types, t, node),
         Lp::Lam(_, _) => check_none(alloc, sig, types, t, node),
         Lp::Var(_) => check_none(alloc, sig, types, t, node),
         Lp::Sort => check_none(alloc, sig, types, t, node),
         Lp::Pat(_) => check_none(alloc, sig, types, t, node),
+    }
+}
+
+/// One step down the right parts of products.
+#[cycle(find)]
+fn step_type<'a>(
+    alloc: Global,
+    sig: &Signature,
+    types: &mut Seq<Lp>,
+    domains: &mut Seq<Lp>,
+    rest: &'a Lp,
+    node: u64,
+) -> Result<TypeStep<'a>, NoMemory>
+    ensures same { IfOk result (λ s. HasDescended (sig_of sig.now) domains.old types.old
+        (check_at (sig_of sig.now) types.old (term_of rest.now) node) domains.new types.new s) }
+    ensures small { IfOk result (λ s. IsLower s (size-Lp rest.now)) }
+{
+    match rest {
+        Lp::Pi(a, b) => step_product(alloc, sig, types, domains, a.get(), b.get(), node),
+        _ => {
+            let opening = check_last(alloc, sig, types, rest, node)?;
+            Ok(TypeStep::Reached(opening))
+        }
+    }
+}
+
+/// The lazy type of a type, or the first fault. The right parts of products are walked by a loop.
+#[cycle(find)]
+pub(crate) fn check_type(
+    alloc: Global,
+    sig: &Signature,
+    types: &mut Seq<Lp>,
+    t: &Lp,
+    node: u64,
+) -> Result<Opening, NoMemory>
+    ensures found { IfOk result (λ r. checked_of r
+        ≡ check_at (sig_of sig.now) types.old (term_of t.now) node) }
+    ensures kept { OnOk result (types.new ≡ types.old) }
+{
+    let level = types.len();
+    let mut domains = Seq::from_vec(Vec::new(alloc));
+    let mut rest = t;
+    let mut number = node;
+    'codomains: loop {
+        match step_type(alloc, sig, types, &mut domains, rest, number)? {
+            TypeStep::Below(next, at) => {
+                rest = next;
+                number = at;
+            }
+            TypeStep::Reached(opening) => {
+                cut(types, level);
+                return products_of(alloc, domains, opening);
+            }
+        }
     }
 }
 

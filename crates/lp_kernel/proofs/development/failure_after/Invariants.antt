@@ -1,6 +1,6 @@
 use Rattle.std.proofs.Common.{◌≡◌, length}
 use Rattle.lp_kernel.specs.Developments.{failure_after}
-use Rattle.lp_kernel.specs.Walking.{sig_of}
+use Rattle.lp_kernel.specs.Signatures.{sig_of}
 use Rattle.lp_kernel.proofs.development.failure_after.Given as goal
 
 abbrev pub invariant-constants : goal.invariant-constants

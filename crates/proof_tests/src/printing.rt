@@ -3,7 +3,7 @@ use lp_term::{
     Command, Dev, Ident, Lp, apply, apply_both, arrow, lambda, negation, prelude, proof_type,
     symbol,
 };
-use lp_text::print;
+use lp_text::{LetPiece, print, print_lets};
 use std::alloc::Global;
 use std::test::Fail;
 
@@ -175,5 +175,28 @@ fn prints(rt: HostRuntime) -> Result<(), Fail> {
     assert_eq!(rt; text.as_slice(), SHAPES.as_bytes());
     let text = nested(alloc, 10_000)?;
     assert_eq!(rt; text.len(), 228_914);
+    Ok(())
+}
+
+// Each let but the first has the variable of the one before as its value.
+#[test]
+fn lets_are_rendered_in_order(rt: HostRuntime) -> Result<(), Fail> {
+    let alloc = rt.alloc();
+    let mut lets = Seq::new(alloc);
+    for before in 0..5_000u32 {
+        lets.push(LetPiece {
+            level: before.saturating_add(1),
+            ty: proof_type(alloc, symbol(alloc, b"bot")?)?,
+            term: Lp::Var(0),
+        })
+        .map_err(|_| "memory")?;
+    }
+    let texts = print_lets(&rt, alloc, &lets)?;
+    assert_eq!(rt; texts.len(), 5_000);
+    for (before, text) in (0..5_000u32).zip(texts.as_slice()) {
+        let level = before.saturating_add(1);
+        let line = format!(in alloc; "let v{level} : Prf bot ≔ v{before} in\n")?;
+        assert_eq!(rt; text.as_slice(), line.as_bytes(), "{before}");
+    }
     Ok(())
 }

@@ -6,6 +6,8 @@
 #[cfg(test)]
 mod graphs;
 #[cfg(test)]
+mod tables;
+#[cfg(test)]
 mod traces;
 #[cfg(test)]
 mod trees;

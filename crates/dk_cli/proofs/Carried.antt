@@ -4,13 +4,13 @@ use Rattle.std.specs.declared.option.Option.{Option}
 use Rattle.std.specs.declared.result.Result.{Result}
 use Rattle.dk_io.specs.Causes.{Rose}
 use Rattle.dk_io.specs.Outside.{Told}
-use Rattle.dk_cli.specs.Answer.{Answers, AnswersCommand, ComesBeforeWriting, IsMemory, IsReadFault, IsToldOutcome, LacksFile}
-use Rattle.dk_cli.specs.Commands.{Command}
+use Rattle.dk_cli.specs.Answer.{Answers, AnswersCommand, IsMemory, IsOfDevelopment, IsOfTrace, IsReadFault, IsToldOutcome, LacksFile, Refuses}
+use Rattle.dk_cli.specs.Commands.{Command, Names, check, convert, extract, steps}
 use Rattle.dk_cli.specs.Delivery.{Change, Delivers, IsNoted, IsRefused, IsUntouched}
 use Rattle.dk_cli.specs.Headline.{CanCome, CarriesOutEach, DoesOutcome, IsCarriedOut, IsDone, Lacks, NotesByStatus, WritesByStatus}
 use Rattle.dk_cli.specs.Refusals.{line_of, status_of, HasNumber}
 use Rattle.dk_cli.specs.declared.refusal.Refusal.{Refusal}
-use Rattle.dk_cli.specs.declared.refusal.Refusal.TheVariants.{Words, ReadFault, Step, WriteFault, Memory}
+use Rattle.dk_cli.specs.declared.refusal.Refusal.TheVariants.{Words, ReadFault, TooLong, TooDeep, NotLp, NotTyped, Step, WriteFault, Memory}
 use Rattle.dk_cli.specs.declared.refusal.Status.{Status}
 use Rattle.dk_cli.specs.declared.refusal.StepFault.TheVariants as step_fault
 use Rattle.dk_cli.specs.declared.refusal.Status.TheVariants as status
@@ -22,18 +22,77 @@ pub refused_status : (refusal : Refusal) (result : Status) (notes : Change)
 refused_status refusal result notes (inl h) = inl h.status
 refused_status refusal result notes (inr h) = inr h.1.status
 
--- no refusal has status 0, and none a status that can't come
-can_refuse : (refusal : Refusal) → CanCome (status_of refusal)
-can_refuse Words = tt
-can_refuse (Step step (step_fault.Over limit)) = tt
-can_refuse (Step step fault) = tt
-can_refuse refusal = tt
+-- ---- the statuses that can come
 
-pub can_come : (answer : Result (List ℕ) Refusal) (result : Status) (out notes : Change) → Delivers answer result out notes → CanCome result
-can_come (Ok text) result out notes (inl w) = subst CanCome (sym w.status) tt
-can_come (Ok text) result out notes (inr w) = subst CanCome (sym w.refused.status) tt
-can_come (Err refusal) result out notes d =
-    elim (refused_status refusal result notes d.1) [ inl s ↦ subst CanCome (sym s) (can_refuse refusal) | inr s ↦ subst CanCome (sym s) tt ]
+-- that of no development
+trace_status : (names : Names) (refusal : Refusal) → IsOfTrace refusal
+    → CanCome (convert names) (status_of refusal) × CanCome (steps names) (status_of refusal) × CanCome (extract names) (status_of refusal)
+trace_status names (NotLp at) h = absurd h
+trace_status names (NotTyped fault) h = absurd h
+trace_status names (Step step (step_fault.Over limit)) h = (tt, tt, tt)
+trace_status names (Step step fault) h = (tt, tt, tt)
+trace_status names refusal h = (tt, tt, tt)
+
+-- that of no problem and no trace
+development_status : (name : List ℕ) (refusal : Refusal) → IsOfDevelopment refusal → CanCome (check name) (status_of refusal)
+development_status name (ReadFault file) h = tt
+development_status name (TooLong file) h = tt
+development_status name (TooDeep file at) h = tt
+development_status name (NotLp at) h = tt
+development_status name (NotTyped fault) h = tt
+development_status name Memory h = tt
+development_status name refusal h = absurd h
+
+refused_can_come : (command : Command) (refusal : Refusal) → Refuses command refusal → CanCome command (status_of refusal)
+refused_can_come (convert names) refusal h = (trace_status names refusal h).0
+refused_can_come (steps names) refusal h = (trace_status names refusal h).1
+refused_can_come (extract names) refusal h = (trace_status names refusal h).2
+refused_can_come (check name) refusal h = development_status name refusal h
+
+-- those of every command
+done_can_come : (command : Command) → CanCome command status.Done × CanCome command status.WriteFault × CanCome command status.Memory
+done_can_come (convert names) = (tt, tt, tt)
+done_can_come (steps names) = (tt, tt, tt)
+done_can_come (extract names) = (tt, tt, tt)
+done_can_come (check name) = (tt, tt, tt)
+
+command_can_come : (told : Told) (command : Command) (before now : ℕ) (answer : Result (List ℕ) Refusal) (result : Status) (out notes : Change)
+    → AnswersCommand told command before now answer → Delivers answer result out notes → CanCome command result
+command_can_come told command before now (Ok text) result out notes a (inl w) = subst (CanCome command) (sym w.status) (done_can_come command).0
+command_can_come told command before now (Ok text) result out notes a (inr w) = subst (CanCome command) (sym w.refused.status) (done_can_come command).1
+command_can_come told command before now (Err refusal) result out notes a d = elim (refused_status refusal result notes d.1) [
+  | inl s ↦ subst (CanCome command) (sym s) (refused_can_come command refusal a.refusal)
+  | inr s ↦ subst (CanCome command) (sym s) (done_can_come command).2
+]
+
+pub can_come : (told : Told) (command : Option Command) (before now : ℕ) (answer : Result (List ℕ) Refusal) (result : Status) (out notes : Change)
+    → Answers told command before now answer → Delivers answer result out notes → IfSome command (λ found. CanCome found result)
+can_come told None before now answer result out notes a d = tt
+can_come told (Some command) before now answer result out notes a d = command_can_come told command before now answer result out notes a d
+
+-- ---- what is refused before anything is written
+
+-- neither words nor writing
+abbrev ComesBeforeWriting : Refusal → Type 0
+ComesBeforeWriting Words = ⊥
+ComesBeforeWriting WriteFault = ⊥
+ComesBeforeWriting refusal = Unit {0}
+
+trace_before : (refusal : Refusal) → IsOfTrace refusal → ComesBeforeWriting refusal
+trace_before Words h = h
+trace_before WriteFault h = h
+trace_before refusal h = tt
+
+development_before : (refusal : Refusal) → IsOfDevelopment refusal → ComesBeforeWriting refusal
+development_before Words h = h
+development_before WriteFault h = h
+development_before refusal h = tt
+
+before_writing : (command : Command) (refusal : Refusal) → Refuses command refusal → ComesBeforeWriting refusal
+before_writing (convert names) refusal h = trace_before refusal h
+before_writing (steps names) refusal h = trace_before refusal h
+before_writing (extract names) refusal h = trace_before refusal h
+before_writing (check name) refusal h = development_before refusal h
 
 -- a refusal but that of a write fault leaves the sink alone
 untouched_by : (refusal : Refusal) (out : Change) → refusal ≢ WriteFault → IsUntouched out → WritesByStatus (status_of refusal) out
@@ -46,7 +105,7 @@ untouched_by refusal out other u = u
 never_write_fault : (told : Told) (command : Option Command) (before now : ℕ) (answer : Result (List ℕ) Refusal)
     → Answers told command before now answer → answer ≢ Err WriteFault
 never_write_fault told None before now answer a e = let words = sym a.0 ∙ e in cc
-never_write_fault told (Some command) before now answer a e = subst (λ r. IfErr r ComesBeforeWriting) e a.refusal
+never_write_fault told (Some command) before now answer a e = before_writing command WriteFault (subst (λ r. IfErr r (Refuses command)) e a.refusal)
 
 pub writes_by : (told : Told) (command : Option Command) (before now : ℕ) (answer : Result (List ℕ) Refusal) (result : Status) (out notes : Change)
     → Answers told command before now answer → Delivers answer result out notes → WritesByStatus result out
@@ -86,7 +145,7 @@ command_not_words : (told : Told) (command : Command) (before now : ℕ) (answer
 command_not_words told command before now (Ok text) result out notes a (inl w) e = let s = w.status in cc
 command_not_words told command before now (Ok text) result out notes a (inr w) e = let s = w.refused.status in cc
 command_not_words told command before now (Err refusal) result out notes a d e =
-    elim (refused_status refusal result notes d.1) [ inl s ↦ not_words refusal a.refusal (sym s ∙ e) | inr s ↦ let m = sym s ∙ e in cc ]
+    elim (refused_status refusal result notes d.1) [ inl s ↦ not_words refusal (before_writing command refusal a.refusal) (sym s ∙ e) | inr s ↦ let m = sym s ∙ e in cc ]
 
 pub words_only : (told : Told) (command : Option Command) (before now : ℕ) (answer : Result (List ℕ) Refusal) (result : Status) (out notes : Change)
     → Answers told command before now answer → Delivers answer result out notes → result ≡ status.Words → command ≡ None

@@ -31,7 +31,7 @@ built_later problem trace (Err (refusal.Unbuilt which)) h = tt
 built_later problem trace (Err other) h = absurd h
 
 written_later : (problem : Problem) (instances : List Instance) (answer : Result (List ℕ) Refusal) → IsWritten problem instances answer → Only IsLater answer
-written_later problem instances answer e = subst (Only IsLater) (sym e) tt
+written_later problem instances answer h = subst (Only IsLater) (sym h.1) tt
 
 module _ (problem : Problem) (trace : Trace) where
   planned_later : (graph : Graph) (root : ℕ) (answer : Result (List ℕ) Refusal) → Follows (IsPlanIn problem trace graph root) (IsWritten problem) answer → Only IsLater answer

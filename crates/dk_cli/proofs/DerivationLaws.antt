@@ -17,7 +17,7 @@ use Rattle.tstp_trace.specs.declared.Trace.{Trace}
 use Rattle.tstp_trace.specs.declared.TraceFault.{TraceFault}
 use Rattle.tstp_trace.specs.declared.TraceFault.TheVariants as trace_fault
 use Rattle.step_check.specs.Steps.{nodes_of}
-use Rattle.dk_cli.specs.Answer.{ComesBeforeWriting, IsReadFault}
+use Rattle.dk_cli.specs.Answer.{IsOfTrace, IsReadFault}
 use Rattle.dk_cli.specs.Derivations.{IsDerivationIn, IsDerivationOf, IsDerivedBy, IsGraphIn, IsProblemIn, IsText, IsTraceIn, byte_limit, derivation, graph_refusal, problem_refusal, text_refusal, trace_refusal}
 use Rattle.dk_cli.specs.Stages.{Follows, IsToldBy}
 use Rattle.dk_cli.specs.declared.derivation.Derivation.{Derivation}
@@ -48,11 +48,13 @@ both_read problem trace answer fits trace_fits given = (Ok problem, (refl, fits)
 
 -- ---- what no later stage refuses
 
--- neither words, nor reading, nor writing is refused
+-- neither words, nor reading, nor writing, nor a development is refused
 abbrev pub IsLater : Refusal → Type 0
 IsLater refusal.Words = ⊥
 IsLater (refusal.ReadFault which) = ⊥
 IsLater refusal.WriteFault = ⊥
+IsLater (refusal.NotLp at) = ⊥
+IsLater (refusal.NotTyped fault) = ⊥
 IsLater other = Unit {0}
 
 text_later : (which : File) (fault : TptpFault) → IsLater (text_refusal which fault)
@@ -106,15 +108,16 @@ derivation_later problem trace =
 
 -- ---- what follows for an answer
 
-before_writing : (why : Refusal) → IsLater why → ComesBeforeWriting why
-before_writing refusal.Words h = absurd h
-before_writing refusal.WriteFault h = absurd h
-before_writing (refusal.ReadFault which) h = tt
-before_writing other h = tt
+pub of_trace : (why : Refusal) → IsLater why → IsOfTrace why
+of_trace refusal.Words h = absurd h
+of_trace refusal.WriteFault h = absurd h
+of_trace (refusal.NotLp at) h = absurd h
+of_trace (refusal.NotTyped fault) h = absurd h
+of_trace other h = tt
 
-pub later_before_writing : {A : Type 0} (answer : Result A Refusal) → Only IsLater answer → IfErr answer ComesBeforeWriting
-later_before_writing (Ok text) h = tt
-later_before_writing (Err why) h = before_writing why h
+pub later_of_trace : {A : Type 0} (answer : Result A Refusal) → Only IsLater answer → IfErr answer IsOfTrace
+later_of_trace (Ok text) h = tt
+later_of_trace (Err why) h = of_trace why h
 
 pub later_no_read_fault : {A : Type 0} (answer : Result A Refusal) → Only IsLater answer → IsReadFault answer → ⊥
 later_no_read_fault (Ok text) h k = k

@@ -1,11 +1,16 @@
+pub mod Accepted
 pub mod Carried
+pub mod CheckLaws
 pub mod Continued
 pub mod ConversionLaws
 pub mod DerivationLaws
 pub mod Derived
+pub mod Extracted
 pub mod JudgingLaws
+pub mod OneFile
 pub mod OneOutcome
 pub mod Proved
+pub mod ReadBack
 pub mod Reported
 pub mod RootMarks
 pub mod StageLaws

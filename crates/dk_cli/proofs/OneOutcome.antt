@@ -14,11 +14,13 @@ use Rattle.tstp_trace.specs.Traces.{IsTraceAnswer}
 use Rattle.tstp_trace.specs.declared.ProblemFault.TheVariants as problem_fault
 use Rattle.tstp_trace.specs.declared.Trace.{Trace}
 use Rattle.tstp_trace.specs.declared.TraceFault.TheVariants as trace_fault
-use Rattle.dk_cli.specs.Commands.{Command, Names, convert, steps}
+use Rattle.dk_cli.specs.Checking.{IsCheckedIn}
+use Rattle.dk_cli.specs.Commands.{Command, Names, check, convert, extract, steps}
 use Rattle.dk_cli.specs.Conversion.{ArePlanned, IsBuilt, IsDeveloped, IsFlatDeveloped, IsPlanIn, IsRightDeveloped, IsRootIn, IsWritten, barred, formulas_of, plan_refusal, root_told}
 use Rattle.dk_cli.specs.Derivations.{IsDerivationAt, IsDerivationIn, IsDerivedBy, IsFile, IsGraphIn, IsProblemIn, IsText, IsTraceIn, derivation, graph_refusal, problem_refusal, text_refusal, trace_refusal}
 use Rattle.dk_cli.specs.Judging.{IsJudged}
 use Rattle.dk_cli.specs.Outcome.{IsGiven, IsOutcome}
+use Rattle.dk_cli.specs.Extraction.{IsExtracted}
 use Rattle.dk_cli.specs.StepReport.{IsReported}
 use Rattle.dk_cli.specs.Stages.{Follows, IsToldBy}
 use Rattle.dk_cli.specs.declared.derivation.Derivation.{Derivation}
@@ -27,6 +29,7 @@ use Rattle.dk_cli.specs.declared.refusal.File.TheVariants as file
 use Rattle.dk_cli.specs.declared.refusal.Refusal.{Refusal}
 use Rattle.dk_cli.specs.declared.refusal.Refusal.TheVariants as refusal
 use Rattle.step_check.specs.Steps.{nodes_of}
+use Rattle.dk_cli.proofs.CheckLaws.{one_checked_in}
 use Rattle.dk_cli.proofs.JudgingLaws.{one_judged, one_reported}
 use Rattle.dk_cli.proofs.StageLaws.{IsOne, one_of_two, one_told}
 use Rattle.flat_steps.proofs.PlanLaws.{one_answer}
@@ -103,7 +106,7 @@ module _ (problem : Problem) (trace : Trace) where
   one_flat : (graph : Graph) (root : ℕ) → IsOne refusal.Memory (IsFlatDeveloped problem trace graph root)
   one_flat graph root =
       one_of_two (IsBuilt problem trace) (λ nothing. Follows (IsPlanIn problem trace graph root) (IsWritten problem)) one_built
-      (λ nothing. one_of_two (IsPlanIn problem trace graph root) (IsWritten problem) (one_plan_in graph root) (λ instances one other h k not_one not_other. h ∙ sym k))
+      (λ nothing. one_of_two (IsPlanIn problem trace graph root) (IsWritten problem) (one_plan_in graph root) (λ instances one other h k not_one not_other. h.1 ∙ sym k.1))
 
 one_right_developed : (d : Derivation) (root : ℕ) → IsOne refusal.Memory (IsRightDeveloped d root)
 one_right_developed d root =
@@ -117,6 +120,8 @@ one_developed d = one_of_two (IsRootIn d.problem d.trace) (IsRightDeveloped d) (
 one_given : (command : Command) (files : List ℕ → Option (List ℕ)) → IsOne refusal.Memory (IsGiven command files)
 one_given (convert names) files = one_of_two (IsDerivationAt names files) IsDeveloped (one_derivation names files) one_developed
 one_given (steps names) files = one_of_two (IsDerivationAt names files) IsReported (one_derivation names files) one_reported
+one_given (extract names) files = one_of_two (IsDerivationAt names files) IsExtracted (one_derivation names files) (λ d one other h k not_one not_other. h ∙ sym k)
+one_given (check name) files = one_of_two (IsFile file.Development (files name)) IsCheckedIn (one_file file.Development (files name)) one_checked_in
 
 pub one_outcome : (command : Command) (files : List ℕ → Option (List ℕ)) (one other : Result (List ℕ) Refusal) → IsOutcome command files one → IsOutcome command files other → one ≡ other
 one_outcome command files one other h k = one_given command files one other h.given k.given h.memory k.memory

@@ -1,5 +1,5 @@
 -- What is written is a proof of the problem.
-use Rattle.std.proofs.Common.{◌≡◌, ℕ, ◌-◌, ◌⊎◌, List, slice_get, arith, Ok, Err, None, Some, inl, inr, refl, sym, ◌∙◌, ap, subst}
+use Rattle.std.proofs.Common.{◌≡◌, ℕ, ◌-◌, List, slice_get, arith, Ok, Err, None, Some, inl, inr, refl, sym, ◌∙◌, ap, subst}
 use Rattle.std.specs.declared.option.Option.{Option}
 use Rattle.std.specs.declared.result.Result.{Result}
 use Rattle.std.specs.Io.KnownBytes.{Appends}
@@ -17,21 +17,19 @@ use Rattle.flat_steps.specs.declared.Instance.{Instance}
 use Rattle.flat_typing.proofs.BodyViews.{view_goal_sorted}
 use Rattle.flat_typing.proofs.PlanTyping.{goal_closed, plan_closed, plan_typed}
 use Rattle.flat_typing.specs.PlanTypes.{IsPlanned}
-use Rattle.lp_term.specs.declared.Dev.{Dev}
 use Rattle.lp_text.specs.Print.{text_of}
-use Rattle.tptp_text.specs.declared.Item.{Item}
 use Rattle.tstp_trace.specs.Problems.{IsProblemAnswer}
 use Rattle.tstp_trace.specs.declared.Step.{Step}
 use Rattle.tstp_trace.specs.declared.Trace.{Trace}
 use Rattle.dk_cli.specs.Answer.{Answers, AnswersCommand, IsTold}
 use Rattle.step_check.specs.Steps.{nodes_of}
 use Rattle.dk_cli.specs.Commands.{Command, Names, convert}
-use Rattle.dk_cli.specs.Delivery.{Change, Delivers, IsWritten as IsTextWritten}
-use Rattle.dk_cli.specs.Conversion.{ArePlanned, IsBuilt, IsDeveloped, IsFlatDeveloped, IsPlanIn, IsRightDeveloped, IsRootIn, IsWritten, formulas_of, plan_refusal}
+use Rattle.dk_cli.specs.Delivery.{Change, Delivers}
+use Rattle.dk_cli.specs.Conversion.{ArePlanned, IsBuilt, IsDeveloped, IsFlatDeveloped, IsPlanIn, IsPrinted, IsRightDeveloped, IsRootIn, IsWritten, formulas_of, plan_refusal}
 use Rattle.dk_cli.specs.Derivations.{IsDerivationIn, IsDerivationOf, IsDerivedBy, IsFile, IsGraphIn, IsProblemIn, IsText, IsTraceIn, derivation, graph_refusal, problem_refusal}
 use Rattle.dk_cli.specs.Judging.{IsJudged}
 use Rattle.dk_cli.specs.Outcome.{IsOutcome}
-use Rattle.dk_cli.specs.Proof.{IsProofOf, WritesProof}
+use Rattle.dk_cli.specs.Proof.{IsProofOf, IsProofText, IsReadAlone, WritesProof}
 use Rattle.dk_cli.specs.Stages.{Follows, IsToldBy}
 use Rattle.dk_cli.specs.declared.derivation.Derivation.{Derivation}
 use Rattle.dk_cli.specs.declared.refusal.File.{File}
@@ -40,6 +38,7 @@ use Rattle.dk_cli.specs.declared.refusal.Refusal.{Refusal}
 use Rattle.dk_cli.specs.declared.refusal.Status.{Status}
 use Rattle.dk_cli.specs.declared.refusal.Status.TheVariants as status
 use Rattle.dk_cli.proofs.Carried.{refusal_not_done}
+use Rattle.dk_cli.proofs.ReadBack.{read_alone}
 use Rattle.dk_cli.proofs.StageLaws.{follows_found, found_same, told_found}
 
 -- a file whose bytes were found
@@ -92,13 +91,21 @@ plan_is_proof problem steps parents root instances planned =
       body_declared = closed.1;
     }
 
--- a text that is developed is that of a proof
-record IsProvedText (problem : Problem) (text : List ℕ) : Type 0 where
-  pub development : Dev
-  pub proof : IsProofOf problem development
-  pub same : text ≡ text_of development
+-- the text of the development of a plan
+plan_text : (problem : Problem) (steps : List Step) (parents : List (List ℕ)) (root : ℕ) (instances : List Instance) (text : List ℕ)
+    → IsPlanned problem steps parents root instances → IsPrinted problem (development_of problem instances) → text ≡ text_of (development_of problem instances)
+    → IsProofText problem text
+plan_text problem steps parents root instances text planned printed same =
+    let development = development_of problem instances in
+    let proof = plan_is_proof problem steps parents root instances planned in record {
+      development = development;
+      is_read = subst (λ bytes. IsReadAlone bytes development) (sym same) (read_alone problem development proof printed);
+      canonical = same;
+      is_proof = proof;
+    }
 
-proved_by : (d : Derivation) (text : List ℕ) → HasItsSymbols d.problem → IsGraphIn d.trace (Ok d.graph) → IsDeveloped d (Ok text) → IsProvedText d.problem text
+-- a text that is developed is that of a proof
+proved_by : (d : Derivation) (text : List ℕ) → HasItsSymbols d.problem → IsGraphIn d.trace (Ok d.graph) → IsDeveloped d (Ok text) → IsProofText d.problem text
 proved_by d text symbols graphed h =
     let problem = d.problem in
     let trace = d.trace in
@@ -110,21 +117,16 @@ proved_by d text symbols graphed h =
     let planned = follows_found (IsPlanIn problem trace graph root) (IsWritten problem) text built.2 in
     let derived = told_found graph_refusal (IsGraphAnswer (nodes_of trace)) graph graphed in
     let plans = told_found plan_refusal (ArePlanned problem trace graph root) planned.0 planned.1 in
-    record {
-      development = development_of problem planned.0;
-      proof = plan_is_proof problem trace.steps graph.parents (root - 1) planned.0 (planned_from problem trace graph root planned.0 symbols built.1.0 derived rooted.1 plans);
-      same = found_same {F = Refusal} text (text_of (development_of problem planned.0)) planned.2;
-    }
+    plan_text problem trace.steps graph.parents (root - 1) planned.0 text (planned_from problem trace graph root planned.0 symbols built.1.0 derived rooted.1 plans)
+    planned.2.0 (found_same {F = Refusal} text (text_of (development_of problem planned.0)) planned.2.1)
 
 -- a text is that of a proof of the problem that was read
-record IsProofText (found : Option (List ℕ)) (text : List ℕ) : Type 0 where
+record IsReadProof (found : Option (List ℕ)) (text : List ℕ) : Type 0 where
   pub bytes : List ℕ
   pub is : found ≡ Some bytes
   pub problem : Problem
   pub spelled : IsProblemIn bytes (Ok problem)
-  pub development : Dev
-  pub proof : IsProofOf problem development
-  pub same : text ≡ text_of development
+  pub proof : IsProofText problem text
 
 -- what a derivation holds comes from the problem's bytes and has a graph
 record IsRead (found : Option (List ℕ)) (d : Derivation) : Type 0 where
@@ -148,19 +150,16 @@ derivation_read found other d h =
     read_same found d first.0 third.0 fourth.0 fifth.0 (file_found file.Problem found first.0 first.1) third.1 fifth.1
     (found_same {F = Refusal} d (derivation third.0 fourth.0 fifth.0) fifth.2)
 
-proof_text : (found other : Option (List ℕ)) (text : List ℕ) → Follows (IsDerivationOf found other) IsDeveloped (Ok text) → IsProofText found text
+proof_text : (found other : Option (List ℕ)) (text : List ℕ) → Follows (IsDerivationOf found other) IsDeveloped (Ok text) → IsReadProof found text
 proof_text found other text h =
     let first = follows_found (IsDerivationOf found other) IsDeveloped text h in
     let read = derivation_read found other first.0 first.1 in
-    let proved = proved_by first.0 text (problem_has_symbols read.bytes first.0.problem read.spelled) read.graphed first.2 in
     record {
       bytes = read.bytes;
       is = read.is;
       problem = first.0.problem;
       spelled = read.spelled;
-      development = proved.development;
-      proof = proved.proof;
-      same = proved.same;
+      proof = proved_by first.0 text (problem_has_symbols read.bytes first.0.problem read.spelled) read.graphed first.2;
     }
 
 -- a text that was written whole
@@ -170,7 +169,7 @@ module _ (told : Told) (names : Names) (before now : ℕ) where
   writes_text None text out outcome bytes = tt
   writes_text (Some files) text out outcome bytes =
       let proof = proof_text (files names.problem) (files names.trace) text outcome.given in
-      (proof.bytes, proof.is, (proof.problem, proof.spelled, (proof.development, proof.proof, subst (Appends out.old out.new) proof.same bytes)))
+      (proof.bytes, proof.is, (proof.problem, proof.spelled, (text, proof.proof, bytes)))
 
   told_text : (text : List ℕ) → AnswersCommand told (convert names) before now (Ok text) → IsTold told (IsOutcome (convert names)) (Ok text)
   told_text text a = elim a.outcome [ inl h ↦ absurd h.0 | inr rest ↦ elim rest [ inl h ↦ absurd h | inr outcome ↦ outcome ] ]

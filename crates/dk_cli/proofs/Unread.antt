@@ -16,7 +16,7 @@ use Rattle.dk_cli.specs.declared.refusal.Refusal.{Refusal}
 use Rattle.dk_cli.specs.declared.refusal.Refusal.TheVariants.{ReadFault, TooLong, Memory}
 use Rattle.dk_cli.specs.declared.refusal.File.{File}
 use Rattle.dk_cli.specs.declared.refusal.File.TheVariants.{Problem, Trace}
-use Rattle.dk_cli.proofs.DerivationLaws.{both_read, derivation_later, later_before_writing, later_no_read_fault, problem_absent, problem_too_long, trace_absent, trace_too_long}
+use Rattle.dk_cli.proofs.DerivationLaws.{both_read, derivation_later, later_of_trace, later_no_read_fault, problem_absent, problem_too_long, trace_absent, trace_too_long}
 
 -- what is told of a file that is there
 there : (told : Told) (name bytes : List ℕ) → Tells told name bytes → IsAbsent told name → ⊥
@@ -193,7 +193,7 @@ module _ (told : Told) (names : Names) (before now : ℕ) (problem trace : List 
     lacks = λ h. absurd (read_is_there told names.trace trace t (lacks_trace told names problem p h));
     outcome = inr (inr (told_derivation told names problem trace answer p t (both_read problem trace answer fits trace_fits given)));
     read_fault = λ h. absurd (later_no_read_fault answer (derivation_later problem trace answer given) h);
-    refusal = later_before_writing answer (derivation_later problem trace answer given);
+    refusal = later_of_trace answer (derivation_later problem trace answer given);
   }
 
   pub answers_derivation : (answer : Result Derivation Refusal) → Answered (IsDerivationIn problem trace) answer → AnswersDerivation told names before now answer

@@ -4,11 +4,11 @@ use Rattle.std.specs.declared.option.Option.{Option}
 use Rattle.std.specs.declared.result.Result.{Result}
 use Rattle.dk_io.specs.Causes.{Rose}
 use Rattle.dk_io.specs.Outside.{Told, IsAbsent, Tells}
-use Rattle.dk_cli.specs.Commands.{Command, files_of}
+use Rattle.dk_cli.specs.Commands.{Command, check, convert, extract, files_of, steps}
 use Rattle.dk_cli.specs.Derivations.{byte_limit}
 use Rattle.dk_cli.specs.Outcome.{IsOutcome}
 use Rattle.dk_cli.specs.declared.refusal.Refusal.{Refusal}
-use Rattle.dk_cli.specs.declared.refusal.Refusal.TheVariants.{Words, ReadFault, WriteFault, Memory}
+use Rattle.dk_cli.specs.declared.refusal.Refusal.TheVariants.{Words, ReadFault, TooLong, TooDeep, NotLp, NotTyped, WriteFault, Memory}
 
 -- One of the files is absent. Each is read only where those before it were read whole.
 abbrev pub LacksOneOf : Told → List (List ℕ) → Type 0
@@ -36,25 +36,45 @@ IsTold (Some files) Is answer = Is files answer
 abbrev pub IsToldOutcome : Told → Command → Result (List ℕ) Refusal → Type 0
 IsToldOutcome told command answer = IsTold told (IsOutcome command) answer
 
--- A command is refused neither for its words nor, before anything is written, for its writing.
-abbrev pub ComesBeforeWriting : Refusal → Type 0
-ComesBeforeWriting Words = ⊥
-ComesBeforeWriting WriteFault = ⊥
-ComesBeforeWriting refusal = Unit {0}
+-- What `convert`, `steps` and `extract` refuse before anything is written: not their words, and nothing that is said of a
+-- development.
+abbrev pub IsOfTrace : Refusal → Type 0
+IsOfTrace Words = ⊥
+IsOfTrace WriteFault = ⊥
+IsOfTrace (NotLp at) = ⊥
+IsOfTrace (NotTyped fault) = ⊥
+IsOfTrace refusal = Unit {0}
 
--- The answer to what reads files, of which one lacks or not, by the counts of the inputs before and now:
--- what the files give, unless the inputs failed or memory ran out.
-pub record IsAnswer {A : Type 0} (Lacks : Type 0) (Is : Result A Refusal → Type 0) (before now : ℕ) (answer : Result A Refusal) : Type 0 where
+-- What `check` refuses before anything is written: what is said of a file and of a development alone.
+abbrev pub IsOfDevelopment : Refusal → Type 0
+IsOfDevelopment (ReadFault file) = Unit {0}
+IsOfDevelopment (TooLong file) = Unit {0}
+IsOfDevelopment (TooDeep file at) = Unit {0}
+IsOfDevelopment (NotLp at) = Unit {0}
+IsOfDevelopment (NotTyped fault) = Unit {0}
+IsOfDevelopment Memory = Unit {0}
+IsOfDevelopment refusal = ⊥
+
+-- What a command refuses before anything is written.
+abbrev pub Refuses : Command → Refusal → Type 0
+Refuses (convert names) refusal = IsOfTrace refusal
+Refuses (steps names) refusal = IsOfTrace refusal
+Refuses (extract names) refusal = IsOfTrace refusal
+Refuses (check name) refusal = IsOfDevelopment refusal
+
+-- The answer to what reads files, of which one lacks or not, and refuses such things, by the counts of the inputs
+-- before and now: what the files give, unless the inputs failed or memory ran out.
+pub record IsAnswer {A : Type 0} (Lacks : Type 0) (Can : Refusal → Type 0) (Is : Result A Refusal → Type 0) (before now : ℕ) (answer : Result A Refusal) : Type 0 where
   pub later : before ≤ now
   pub rose : before < now → IsReadFault answer
   pub lacks : Lacks → IsReadFault answer ⊎ IsMemory answer
   pub outcome : (IsReadFault answer × Rose before now) ⊎ (IsMemory answer ⊎ Is answer)
   pub read_fault : IsReadFault answer → Rose before now ⊎ Lacks
-  pub refusal : IfErr answer ComesBeforeWriting
+  pub refusal : IfErr answer Can
 
 -- The answer to a command.
 abbrev pub AnswersCommand : Told → Command → ℕ → ℕ → Result (List ℕ) Refusal → Type 0
-AnswersCommand told command before now answer = IsAnswer (LacksFile told command) (IsToldOutcome told command) before now answer
+AnswersCommand told command before now answer = IsAnswer (LacksFile told command) (Refuses command) (IsToldOutcome told command) before now answer
 
 -- The answer to the words, which ask for a command or for none.
 abbrev pub Answers : Told → Option Command → ℕ → ℕ → Result (List ℕ) Refusal → Type 0

@@ -1,11 +1,12 @@
 -- What `convert` writes of a derivation: the text of a development, or the first refusal.
-use Rattle.std.specs.Prelude.{◌≡◌, ℕ, ◌-◌, Bool, false, List, map, nat_eq, Ok, Err, None, Some}
+use Rattle.std.specs.Prelude.{◌≡◌, ℕ, ◌-◌, Bool, false, List, All, map, nat_eq, Ok, Err, None, Some}
 use Rattle.std.specs.Cmp.Lexicographic.{pointwise}
 use Rattle.std.specs.declared.option.Option.{Option}
 use Rattle.std.specs.declared.result.Result.{Result}
 use Rattle.dk_syntax.specs.declared.Formula.{Formula}
 use Rattle.dk_syntax.specs.declared.Named.{Named}
 use Rattle.dk_syntax.specs.declared.Problem.{Problem}
+use Rattle.dk_syntax.specs.declared.SymKey.{SymKey}
 use Rattle.derivation_graph.specs.Roots.{IsRootAnswer}
 use Rattle.derivation_graph.specs.declared.Graph.{Graph}
 use Rattle.flat_development.specs.Development.{development_of}
@@ -15,6 +16,10 @@ use Rattle.flat_steps.specs.Verdicts.{places_of}
 use Rattle.flat_steps.specs.declared.Instance.{Instance}
 use Rattle.flat_steps.specs.declared.PlanFault.{PlanFault}
 use Rattle.flat_steps.specs.declared.PlanFault.TheVariants as plan_fault
+use Rattle.lp_term.specs.Identifiers.{identifier_of}
+use Rattle.lp_term.specs.Reserved.{IsFree, IsGrammarName}
+use Rattle.lp_term.specs.declared.Dev.{Dev}
+use Rattle.lp_text.specs.Levels.{commands_over}
 use Rattle.lp_text.specs.Print.{text_of}
 use Rattle.tstp_trace.specs.declared.StepSource.{StepSource}
 use Rattle.tstp_trace.specs.declared.StepSource.TheVariants.{Leaf, Derived}
@@ -75,9 +80,21 @@ ArePlanned problem trace graph root found = Plans problem.hyps trace.steps (plac
 abbrev pub IsPlanIn : Problem → Trace → Graph → ℕ → Result (List Instance) Refusal → Type 0
 IsPlanIn problem trace graph root answer = IsToldBy plan_refusal (ArePlanned problem trace graph root) answer
 
+-- The symbol's identifier is one of the grammar, and free.
+pub record HasName (symbol : SymKey) : Type 0 where
+  pub grammar : IsGrammarName (identifier_of symbol)
+  pub free : IsFree (identifier_of symbol)
+
+-- A development for a problem that can be printed: fewer than 2 ^ 32 binders stand around each place, else memory
+-- lacks, and the symbols have such identifiers, as all have whose names are bytes.
+pub record IsPrinted (problem : Problem) (development : Dev) : Type 0 where
+  pub places : commands_over development.commands ≡ 0
+  pub names : All HasName problem.symbols
+
 -- The text of the development.
 abbrev pub IsWritten : Problem → List Instance → Result (List ℕ) Refusal → Type 0
-IsWritten problem instances answer = answer ≡ Ok (text_of (development_of problem instances))
+IsWritten problem instances answer =
+    IsPrinted problem (development_of problem instances) × (answer ≡ Ok (text_of (development_of problem instances)))
 
 -- ---- the whole
 

@@ -5,7 +5,7 @@ use Rattle.std.specs.declared.result.Result.{Result}
 use Rattle.std.specs.Io.KnownBytes.{Appends}
 use Rattle.dk_io.specs.Causes.{Rose}
 use Rattle.dk_io.specs.Outside.{Told, AppendsFront}
-use Rattle.dk_cli.specs.Commands.{Command}
+use Rattle.dk_cli.specs.Commands.{Command, check, convert, extract, steps}
 use Rattle.dk_cli.specs.Answer.{Answers, IsToldOutcome, LacksFile}
 use Rattle.dk_cli.specs.Delivery.{Change, Delivers, IsCut, IsNoted, IsRefused, IsUntouched, IsWritten}
 use Rattle.dk_cli.specs.declared.refusal.Refusal.{Refusal}
@@ -23,10 +23,18 @@ abbrev pub Lacks : Told → Option Command → Type 0
 Lacks told None = ⊥
 Lacks told (Some command) = LacksFile told command
 
--- The statuses that can come: not that of a file that is not typed.
-abbrev pub CanCome : Status → Type 0
-CanCome status.IllTyped = ⊥
-CanCome result = Unit {0}
+-- The statuses that can come: that of a development that is not typed for `check` alone, and for `check` none of
+-- a problem and a trace.
+abbrev pub CanCome : Command → Status → Type 0
+CanCome (convert names) status.IllTyped = ⊥
+CanCome (convert names) result = Unit {0}
+CanCome (steps names) status.IllTyped = ⊥
+CanCome (steps names) result = Unit {0}
+CanCome (extract names) status.IllTyped = ⊥
+CanCome (extract names) result = Unit {0}
+CanCome (check name) status.Input = ⊥
+CanCome (check name) status.Unbuilt = ⊥
+CanCome (check name) result = Unit {0}
 
 -- What the sink has more: one text with status 0, the front of one after a write fault, else nothing.
 abbrev pub WritesByStatus : Status → Change → Type 0

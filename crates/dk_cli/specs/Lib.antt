@@ -1,8 +1,10 @@
 pub mod Answer
+pub mod Checking
 pub mod Commands
 pub mod Conversion
 pub mod Delivery
 pub mod Derivations
+pub mod Extraction
 pub mod Headline
 pub mod Judging
 pub mod Outcome

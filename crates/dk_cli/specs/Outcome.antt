@@ -2,9 +2,11 @@
 use Rattle.std.specs.Prelude.{◌≢◌, ℕ, List, Err}
 use Rattle.std.specs.declared.option.Option.{Option}
 use Rattle.std.specs.declared.result.Result.{Result}
-use Rattle.dk_cli.specs.Commands.{Command, convert, steps}
+use Rattle.dk_cli.specs.Commands.{Command, check, convert, extract, steps}
+use Rattle.dk_cli.specs.Checking.{IsCheckedAt}
 use Rattle.dk_cli.specs.Conversion.{IsDeveloped}
 use Rattle.dk_cli.specs.Derivations.{IsDerivationAt}
+use Rattle.dk_cli.specs.Extraction.{IsExtracted}
 use Rattle.dk_cli.specs.Stages.{Follows}
 use Rattle.dk_cli.specs.StepReport.{IsReported}
 use Rattle.dk_cli.specs.declared.refusal.Refusal.{Refusal}
@@ -14,6 +16,8 @@ use Rattle.dk_cli.specs.declared.refusal.Refusal.TheVariants.{Memory}
 abbrev pub IsGiven : Command → (List ℕ → Option (List ℕ)) → Result (List ℕ) Refusal → Type 0
 IsGiven (convert names) files answer = Follows (IsDerivationAt names files) IsDeveloped answer
 IsGiven (steps names) files answer = Follows (IsDerivationAt names files) IsReported answer
+IsGiven (extract names) files answer = Follows (IsDerivationAt names files) IsExtracted answer
+IsGiven (check name) files answer = IsCheckedAt name files answer
 
 -- The outcome of a command: what the files give where there is memory.
 pub record IsOutcome (command : Command) (files : List ℕ → Option (List ℕ)) (answer : Result (List ℕ) Refusal) : Type 0 where

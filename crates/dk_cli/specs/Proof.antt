@@ -13,6 +13,7 @@ use Rattle.lp_term.specs.View.{term_of}
 use Rattle.lp_term.specs.declared.Command.TheVariants.{Define}
 use Rattle.lp_term.specs.declared.Dev.{Dev}
 use Rattle.lp_term.specs.declared.Lp.{Lp}
+use Rattle.lp_read.specs.Text.{Reads}
 use Rattle.lp_text.specs.Print.{text_of}
 use Rattle.dk_cli.specs.Commands.{Names}
 use Rattle.dk_cli.specs.Delivery.{Change}
@@ -38,10 +39,25 @@ pub record IsProofOf (problem : Problem) (development : Dev) : Type 0 where
   pub type_declared : Declared (signature_for problem) (term_of (goal_type_of problem))
   pub body_declared : Declared (signature_for problem) (term_of body)
 
--- Where the inputs tell their bytes, the sink has one development more, and it is a proof of the problem
--- that the bytes of the problem's file are.
+-- The bytes are read as this development, and as no other.
+pub record IsReadAlone (text : List ℕ) (development : Dev) : Type 0 where
+  pub read : Reads text development
+  pub alone : (other : Dev) → Reads text other → other ≡ development
+
+-- The text is that of a proof of the problem.
+pub record IsProofText (problem : Problem) (text : List ℕ) : Type 0 where
+  -- the one development that the text is read as
+  pub development : Dev
+  pub is_read : IsReadAlone text development
+  -- its canonical text is this one
+  pub canonical : text ≡ text_of development
+  -- it is for the problem, and its `goal` has the problem's type
+  pub is_proof : IsProofOf problem development
+
+-- Where the inputs tell their bytes, the sink has one text more, and it is that of a proof of the problem that
+-- the bytes of the problem's file are.
 abbrev pub WritesProof : Told → Names → Change → Type 0
 WritesProof None names out = Unit {0}
 WritesProof (Some files) names out = (bytes : List ℕ) × (files names.problem ≡ Some bytes)
     × ((problem : Problem) × IsProblemIn bytes (Ok problem)
-    × ((development : Dev) × IsProofOf problem development × Appends out.old out.new (text_of development)))
+    × ((text : List ℕ) × IsProofText problem text × Appends out.old out.new text))

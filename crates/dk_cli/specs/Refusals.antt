@@ -1,21 +1,28 @@
 -- How a refusal is told: its status and its line.
 use Rattle.std.specs.Prelude.{ℕ, List, ◌++◌, codes, decimal, encode_utf8_all}
+use Rattle.std.specs.Str.Lossy.{utf8_lossy}
 use Rattle.extract.specs.Words.{limit_word, reason_text}
+use Rattle.lp_kernel.specs.declared.Want.{Want}
+use Rattle.lp_kernel.specs.declared.Want.TheVariants as want
+use Rattle.lp_term.specs.declared.Lp.{Lp}
+use Rattle.lp_text.specs.Print.{term_text}
 use Rattle.tptp_text.specs.Printed.{printed_item_name}
 use Rattle.tptp_text.specs.declared.OutsideKind.{OutsideKind}
 use Rattle.tptp_text.specs.declared.OutsideKind.TheVariants as kind
 use Rattle.tstp_trace.specs.declared.Unsupported.{Unsupported}
 use Rattle.tstp_trace.specs.declared.Unsupported.TheVariants as unsupported
 use Rattle.dk_cli.specs.declared.refusal.File.{File}
-use Rattle.dk_cli.specs.declared.refusal.File.TheVariants.{Problem, Trace}
+use Rattle.dk_cli.specs.declared.refusal.File.TheVariants.{Problem, Trace, Development}
 use Rattle.dk_cli.specs.declared.refusal.ItemFault.{ItemFault}
 use Rattle.dk_cli.specs.declared.refusal.ItemFault.TheVariants as item_fault
 use Rattle.dk_cli.specs.declared.refusal.Refusal.{Refusal}
-use Rattle.dk_cli.specs.declared.refusal.Refusal.TheVariants.{Words, ReadFault, TooLong, NotTptp, TooDeep, TooManyItems, Item, Step, NoRefutation, Unbuilt, WriteFault, Memory}
+use Rattle.dk_cli.specs.declared.refusal.Refusal.TheVariants.{Words, ReadFault, TooLong, NotTptp, TooDeep, TooManyItems, NotLp, NotTyped, Item, Step, NoRefutation, Unbuilt, WriteFault, Memory}
 use Rattle.dk_cli.specs.declared.refusal.Status.{Status}
 use Rattle.dk_cli.specs.declared.refusal.Status.TheVariants as status
 use Rattle.dk_cli.specs.declared.refusal.StepFault.{StepFault}
 use Rattle.dk_cli.specs.declared.refusal.StepFault.TheVariants as step_fault
+use Rattle.dk_cli.specs.declared.refusal.TypeFault.{TypeFault}
+use Rattle.dk_cli.specs.declared.refusal.TypeFault.TheVariants as type_fault
 
 abbrev pub step_status : StepFault → Status
 step_status (step_fault.Over limit) = status.Limit
@@ -28,6 +35,8 @@ status_of (TooLong file) = status.Limit
 status_of (NotTptp file at) = status.Text
 status_of (TooDeep file at) = status.Limit
 status_of (TooManyItems file) = status.Limit
+status_of (NotLp at) = status.Text
+status_of (NotTyped fault) = status.IllTyped
 status_of (Item item fault) = status.Input
 status_of (Step step fault) = step_status fault
 status_of NoRefutation = status.Input
@@ -38,6 +47,7 @@ status_of Memory = status.Memory
 abbrev pub file_word : File → List ℕ
 file_word Problem = codes "problem"
 file_word Trace = codes "trace"
+file_word Development = codes "file"
 
 abbrev pub kind_word : OutsideKind → List ℕ
 kind_word kind.Include = codes "include"
@@ -75,6 +85,26 @@ step_fault_text step_fault.Cycle = codes "cycle"
 step_fault_text (step_fault.Wrong reason) = codes "wrong: " ++ in_line (reason_text reason)
 step_fault_text (step_fault.Over limit) = codes "over: " ++ limit_word limit
 
+-- A type at its level. Its text is UTF-8, as the names that a development is read with are ASCII; of any other text
+-- std's words say what stands for what is none.
+abbrev pub type_text : Lp → ℕ → List ℕ
+type_text of level = utf8_lossy (term_text of level)
+
+abbrev pub want_text : Want → ℕ → List ℕ
+want_text (want.Exactly of) level = type_text of level
+want_text want.Product level = codes "a product"
+want_text want.Sorted level = codes "a type"
+
+-- commands count from 1, nodes from 0
+abbrev pub type_fault_text : TypeFault → List ℕ
+type_fault_text (type_fault.BadPrelude command) = codes "bad prelude: command " ++ decimal command
+type_fault_text (type_fault.BadSymbol command) = codes "bad symbol: command " ++ decimal command
+type_fault_text (type_fault.BadGoal command) = codes "bad goal: command " ++ decimal command
+type_fault_text (type_fault.UnknownName node name) = codes "unknown name at node " ++ decimal node ++ codes ": " ++ in_line name
+type_fault_text (type_fault.OutOfFragment node) = codes "out of fragment at node " ++ decimal node
+type_fault_text (type_fault.IllTyped node wanted found level) =
+    codes "ill typed at node " ++ decimal node ++ codes ": expected " ++ want_text wanted level ++ codes ", found " ++ type_text found level
+
 -- The line of a refusal, without its newline. Items and steps count from 1, bytes from 0.
 abbrev pub line_of : Refusal → List ℕ
 line_of Words = codes "words: see --help"
@@ -83,6 +113,8 @@ line_of (TooLong file) = codes "too long: " ++ file_word file
 line_of (NotTptp file at) = codes "not TPTP: " ++ file_word file ++ codes " at byte " ++ decimal at
 line_of (TooDeep file at) = codes "too deep: " ++ file_word file ++ codes " at byte " ++ decimal at
 line_of (TooManyItems file) = codes "too many items: " ++ file_word file
+line_of (NotLp at) = codes "not Lambdapi: file at byte " ++ decimal at
+line_of (NotTyped fault) = type_fault_text fault
 line_of (Item item fault) = codes "problem item " ++ decimal item ++ codes ": " ++ item_fault_text fault
 line_of (Step step fault) = codes "step " ++ decimal step ++ codes ": " ++ step_fault_text fault
 line_of NoRefutation = codes "no refutation"
@@ -94,6 +126,8 @@ line_of Memory = codes "out of memory"
 abbrev pub HasNumber : Refusal → Type 0
 HasNumber (NotTptp file at) = Unit {0}
 HasNumber (TooDeep file at) = Unit {0}
+HasNumber (NotLp at) = Unit {0}
+HasNumber (NotTyped fault) = Unit {0}
 HasNumber (Item item fault) = Unit {0}
 HasNumber (Step step fault) = Unit {0}
 HasNumber refusal = ⊥

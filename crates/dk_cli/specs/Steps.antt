@@ -1,18 +1,18 @@
 -- What the parts of a command answer.
-use Rattle.std.specs.Prelude.{◌≡◌, ℕ, ◌<◌, ◌≤◌, ◌⊎◌, Bool, List, length, Ok, Err, IfOk, IfErr, map}
+use Rattle.std.specs.Prelude.{◌≡◌, ℕ, ◌<◌, ◌≤◌, ◌⊎◌, Bool, List, [], ◌∷◌, length, Ok, Err, IfOk, IfErr, map}
 use Rattle.std.specs.declared.result.Result.{Result}
 use Rattle.std.specs.declared.vec.Vec.{Vec}
 use Rattle.std.specs.declared.alloc.Global.{Global}
 use Rattle.dk_io.specs.Causes.{Rose}
-use Rattle.dk_io.specs.Outside.{Told, IsAbsent, IsFile, Tells}
+use Rattle.dk_io.specs.Outside.{Told, IsAbsent, IsFile as IsFileOf, Tells}
 use Rattle.derivation_graph.specs.Graphs.{IsGraphAnswer}
 use Rattle.flat_form.specs.Flat.{is_false}
 use Rattle.step_check.specs.Steps.{nodes_of}
 use Rattle.tstp_trace.specs.Traces.{HaveFitParents}
 use Rattle.tstp_trace.specs.declared.Trace.{Trace}
-use Rattle.dk_cli.specs.Answer.{IsAnswer, IsTold, LacksOneOf}
-use Rattle.dk_cli.specs.Commands.{Command, Names, convert, files_of_names, steps}
-use Rattle.dk_cli.specs.Derivations.{IsDerivationAt, byte_limit}
+use Rattle.dk_cli.specs.Answer.{IsAnswer, IsOfDevelopment, IsOfTrace, IsTold, LacksOneOf}
+use Rattle.dk_cli.specs.Commands.{Command, Names, check, convert, extract, files_of_names, steps}
+use Rattle.dk_cli.specs.Derivations.{IsDerivationAt, IsFile, byte_limit}
 use Rattle.dk_cli.specs.declared.derivation.Derivation.{Derivation}
 use Rattle.dk_cli.specs.declared.refusal.Refusal.{Refusal}
 use Rattle.dk_cli.specs.declared.refusal.Refusal.TheVariants.{ReadFault, TooLong, Memory}
@@ -27,6 +27,8 @@ names_view names = record { problem = names.problem.now; trace = names.trace.now
 abbrev pub command_view : CommandWords → Command
 command_view (words.Convert names) = convert (names_view names)
 command_view (words.Steps names) = steps (names_view names)
+command_view (words.Extract names) = extract (names_view names)
+command_view (words.Check file) = check file.now
 
 -- An answer, without where it lies in memory.
 abbrev pub answer_view : Result (Vec ℕ Global) Refusal → Result (List ℕ) Refusal
@@ -42,7 +44,7 @@ FileCause told name file before now refusal = ⊥
 -- A file was read whole, or why not.
 pub record ReadsFile (told : Told) (name : List ℕ) (file : File) (before now : ℕ) (result : Result (Vec ℕ Global) Refusal) : Type 0 where
   pub later : before ≤ now
-  pub bytes : IfOk result (λ v. IsFile told name v.items × (length v.items ≤ byte_limit))
+  pub bytes : IfOk result (λ v. IsFileOf told name v.items × (length v.items ≤ byte_limit))
   pub rose : before < now → result ≡ Err (ReadFault file)
   pub absent : IsAbsent told name → result ≡ Err (ReadFault file)
   pub cause : IfErr result (λ refusal. FileCause told name file before now refusal)
@@ -51,9 +53,13 @@ pub record ReadsFile (told : Told) (name : List ℕ) (file : File) (before now :
 abbrev pub falsities : Trace → List Bool
 falsities trace = map (λ step. is_false step.formula) trace.steps
 
+-- The answer to the reading of the file of a development.
+abbrev pub AnswersFile : Told → List ℕ → File → ℕ → ℕ → Result (List ℕ) Refusal → Type 0
+AnswersFile told name file before now answer = IsAnswer (LacksOneOf told (name ∷ [])) IsOfDevelopment (IsTold told (λ files. IsFile file (files name))) before now answer
+
 -- The answer to the reading of a derivation from two files.
 abbrev pub AnswersDerivation : Told → Names → ℕ → ℕ → Result Derivation Refusal → Type 0
-AnswersDerivation told names before now answer = IsAnswer (LacksOneOf told (files_of_names names)) (IsTold told (IsDerivationAt names)) before now answer
+AnswersDerivation told names before now answer = IsAnswer (LacksOneOf told (files_of_names names)) IsOfTrace (IsTold told (IsDerivationAt names)) before now answer
 
 -- What holds of a derivation that was read, whether or not its bytes are told.
 pub record IsDerived (d : Derivation) : Type 0 where

@@ -1,13 +1,15 @@
 //! The answer to the words: a text, or the first refusal. Neither the sink nor the notes are touched.
 ghost use Rattle.std.specs.Prelude.{◌≡◌, None, IfOk};
 ghost use Rattle.dk_cli.specs.Answer.{Answers, AnswersCommand};
-ghost use Rattle.dk_cli.specs.Commands.{texts, command_of, convert, steps};
+ghost use Rattle.dk_cli.specs.Commands.{texts, command_of, check, convert, extract, steps};
 ghost use Rattle.dk_cli.specs.Steps.{AnswersDerivation, IsDerived, ReadsFile, answer_view};
 ghost use Rattle.dk_cli.specs.Steps.{command_view, names_view};
 
+use crate::checking::checked_in;
 use crate::command::{Command, Names, asked_command};
 use crate::conversion::developed;
 use crate::derivation::{Derivation, derivation_in};
+use crate::extraction::extracted;
 use crate::judging::reported;
 use crate::{File, Refusal};
 use dk_io::{Gate, Inputs, ReadAll, read_all};
@@ -78,6 +80,24 @@ fn steps<R: Threads + Sync, I: Inputs, G: Gate>(
     reported(rt, alloc, &derivation, gate)
 }
 
+fn problems<I: Inputs>(alloc: Global, inputs: &mut I, names: Names<'_>) -> Result<Vec<u8>, Refusal>
+    ensures same { I.told inputs.new ≡ I.told inputs.old }
+    ensures answers { AnswersCommand (I.told inputs.old) (extract (names_view names.entry))
+        (I.faults inputs.old) (I.faults inputs.new) (answer_view result) }
+{
+    let derivation = derivation_of(alloc, inputs, names)?;
+    extracted(alloc, &derivation)
+}
+
+fn check<I: Inputs>(alloc: Global, inputs: &mut I, name: &str) -> Result<Vec<u8>, Refusal>
+    ensures same { I.told inputs.new ≡ I.told inputs.old }
+    ensures answers { AnswersCommand (I.told inputs.old) (check name.now)
+        (I.faults inputs.old) (I.faults inputs.new) (answer_view result) }
+{
+    let bytes = read_file(alloc, inputs, name, File::Development)?;
+    checked_in(alloc, &bytes)
+}
+
 /// The answer to a command.
 fn command_answer<R: Threads + Sync, I: Inputs, G: Gate>(
     rt: &R,
@@ -93,6 +113,8 @@ fn command_answer<R: Threads + Sync, I: Inputs, G: Gate>(
     match command {
         Command::Convert(names) => convert(rt, alloc, inputs, names, gate),
         Command::Steps(names) => steps(rt, alloc, inputs, names, gate),
+        Command::Extract(names) => problems(alloc, inputs, names),
+        Command::Check(name) => check(alloc, inputs, name),
     }
 }
 

@@ -1,7 +1,7 @@
 //! The words of the command line.
 ghost use Rattle.std.specs.Prelude.{◌≡◌};
 ghost use Rattle.std.specs.Option.{option_map};
-ghost use Rattle.dk_cli.specs.Commands.{texts, command_of, command_on, is_file_name};
+ghost use Rattle.dk_cli.specs.Commands.{texts, command_of, command_on, command_on_file, is_file_name};
 ghost use Rattle.dk_cli.specs.Steps.{command_view, names_view};
 
 /// The names of a problem's file and of a trace's.
@@ -16,6 +16,8 @@ pub struct Names<'a> {
 pub enum Command<'a> {
     Convert(Names<'a>),
     Steps(Names<'a>),
+    Extract(Names<'a>),
+    Check(&'a str),
 }
 
 /// Whether a word names a file: one that begins with `-` and goes on does not.
@@ -35,6 +37,17 @@ fn named_command<'a>(word: &str, names: Names<'a>) -> Option<Command<'a>>
     match word {
         "convert" => Some(Command::Convert(names)),
         "steps" => Some(Command::Steps(names)),
+        "extract" => Some(Command::Extract(names)),
+        _ => None,
+    }
+}
+
+/// The command on one file that a word asks for.
+fn single_command<'a>(word: &str, file: &'a str) -> Option<Command<'a>>
+    ensures { option_map command_view result ≡ command_on_file word.now file.now }
+{
+    match word {
+        "check" => Some(Command::Check(file)),
         _ => None,
     }
 }
@@ -49,6 +62,14 @@ pub fn asked_command(words: &[String]) -> Option<Command<'_>>
             let trace = trace.as_str();
             if names_file(problem) && names_file(trace) {
                 named_command(word.as_str(), Names { problem, trace })
+            } else {
+                None
+            }
+        }
+        [word, file] => {
+            let file = file.as_str();
+            if names_file(file) {
+                single_command(word.as_str(), file)
             } else {
                 None
             }

@@ -1,7 +1,7 @@
 //! What `convert` makes of a derivation: a text, or the first refusal.
-ghost use Rattle.std.specs.Prelude.{◌≡◌, map, Ok, IfOk};
+ghost use Rattle.std.specs.Prelude.{◌≡◌, All, map, Ok, IfOk, OnOk};
 ghost use Rattle.flat_form.specs.Flat.{IsFlatProblem, IsFlatTrace, is_false};
-ghost use Rattle.dk_cli.specs.Conversion.{IsBuilt, IsDeveloped, IsFlatDeveloped, IsPlanIn, IsRootIn, IsWritten, barred, is_conjecture, names_conjecture, plan_refusal};
+ghost use Rattle.dk_cli.specs.Conversion.{HasName, IsBuilt, IsDeveloped, IsFlatDeveloped, IsPlanIn, IsRootIn, IsWritten, barred, is_conjecture, names_conjecture, plan_refusal};
 ghost use Rattle.dk_cli.specs.Stages.{Answered, told_by};
 ghost use Rattle.dk_cli.specs.Steps.{IsDerived, answer_view, falsities};
 
@@ -10,10 +10,11 @@ use crate::judging::judged;
 use crate::refusal::{File, Refusal};
 use derivation_graph::root_by_marks;
 use dk_io::Gate;
-use dk_syntax::{Formula, Named, NoMemory, Problem, Seq};
+use dk_syntax::{Formula, Named, NoMemory, Problem, Seq, SymKey};
 use flat_development::development;
 use flat_form::{is_flat_problem, is_flat_trace};
 use flat_steps::{Instance, PlanFault, make_plan};
+use lp_term::ident_of;
 use lp_text::print;
 use std::alloc::Global;
 use std::thread::Threads;
@@ -94,17 +95,24 @@ fn told_plan(found: Result<Seq<Instance>, PlanFault>) -> Result<Seq<Instance>, R
     }
 }
 
+/// What `ident_of` says of each symbol's identifier, for the proof that the text is read back.
+fn names(alloc: Global, symbols: &[SymKey]) -> Result<(), NoMemory>
+    ensures { OnOk result (All HasName symbols.now) }
+{
+    for symbol in symbols {
+        let _identifier = ident_of(alloc, symbol)?;
+    }
+    Ok(())
+}
+
 /// The text of the development of these instances.
 fn written(alloc: Global, problem: &Problem, instances: &Seq<Instance>) -> Result<Vec<u8>, Refusal>
     ensures { Answered (IsWritten problem.now instances.now) (answer_view result) }
 {
-    let Ok(made) = development(alloc, problem, instances) else {
-        return Err(Refusal::Memory);
-    };
-    match print(alloc, &made) {
-        Ok(text) => Ok(text),
-        Err(_) => Err(Refusal::Memory),
-    }
+    names(alloc, problem.symbols.as_slice())?;
+    let made = development(alloc, problem, instances)?;
+    let text = print(alloc, &made)?;
+    Ok(text)
 }
 
 /// The text of the flat part, which is built.

@@ -31,6 +31,16 @@ pub fn numbered_line(
     Ok(line)
 }
 
+/// `FRONT NUMBER`.
+pub fn counted_line(alloc: Global, front: &str, number: u64) -> Result<String, AllocError>
+    ensures { IfOk result (λ line. string_bytes line ≡ front.now ++ decimal number) }
+{
+    let mut digits = Buffer::new();
+    let mut line = String::from_str(alloc, front)?;
+    line.push_str(digits.format(number))?;
+    Ok(line)
+}
+
 fn kind_text(kind: OutsideKind) -> &'static str
     ensures { result.now ≡ kind_word kind }
 {
@@ -57,7 +67,7 @@ fn unsupported_text(why: Unsupported) -> &'static str
 }
 
 /// A front and the characters of a text, a byte each.
-fn line_with(alloc: Global, front: &str, text: &[u8]) -> Result<String, AllocError>
+pub fn line_with(alloc: Global, front: &str, text: &[u8]) -> Result<String, AllocError>
     ensures { IfOk result (λ line. string_bytes line ≡ front.now ++ in_line text.now) }
 {
     let mut line = String::from_str(alloc, front)?;

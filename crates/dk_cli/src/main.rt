@@ -1,5 +1,6 @@
 //! The program: reads a problem and a refutation of it, and writes a development whose `goal` has the
-//! problem's type (`convert`), or the verdict on each step (`steps`).
+//! problem's type (`convert`), the verdict on each step (`steps`), or each derived step as a problem (`extract`); or reads a development and says
+//! whether it is typed (`check`).
 //!
 //! `run` does all of it, over words, inputs, a sink and notes that its caller gives; `main` gives the
 //! real ones. What it answers is `IsOutcome` (specs/Outcome), how it is delivered `Delivers`
@@ -8,17 +9,20 @@
 #![tactic(auto)]
 
 mod answer;
+mod checking;
 mod command;
 mod conversion;
 mod derivation;
+mod extraction;
 mod judging;
 mod lines;
 mod reading;
 mod refusal;
 mod run;
+mod type_lines;
 
 use dk_io::{ErrNotes, FileInputs, NoGate, OutSink};
-pub use refusal::{File, ItemFault, Refusal, Status, StepFault};
+pub use refusal::{File, ItemFault, Refusal, Status, StepFault, TypeFault};
 use run::refuse;
 pub use run::run;
 use std::alloc::AllocError;
@@ -60,5 +64,7 @@ fn main(rt: HostRuntime) -> ExitCode {
     ExitCode::from(status as u8)
 }
 
+#[cfg(test)]
+mod step_rows;
 #[cfg(test)]
 mod tests;

@@ -2,9 +2,12 @@
 ghost use Rattle.std.specs.Prelude.{◌≡◌, ◌++◌, IfOk, IfSome, IfNone, string_bytes, codes, decimal};
 ghost use Rattle.dk_cli.specs.Refusals.{step_status, status_of, line_of, file_word, HasNumber};
 
-use crate::lines::{item_fault_line, numbered_line, step_fault_line};
+use crate::lines::{counted_line, item_fault_line, numbered_line, step_fault_line};
+use crate::type_lines::type_fault_line;
 use dk_syntax::{Name, NoMemory};
 use itoa::Buffer;
+use lp_kernel::Want;
+use lp_term::{Ident, Lp};
 use std::alloc::{AllocError, Global};
 use step_check::{Limit, Reason};
 use tptp_text::OutsideKind;
@@ -27,11 +30,12 @@ pub enum Status {
     Unbuilt = 9,
 }
 
-/// Which of the two files.
+/// Which file.
 #[derive(Debug, Clone, Copy)]
 pub enum File {
     Problem,
     Trace,
+    Development,
 }
 
 /// What is at fault in an item of the problem.
@@ -56,8 +60,37 @@ pub enum StepFault {
     Over(Limit),
 }
 
+/// What is at fault in a development: `lp_kernel` says which is the first fault. Commands are counted from 1,
+/// nodes from 0.
+#[derive(Drop)]
+pub enum TypeFault {
+    BadPrelude {
+        command: u32,
+    },
+    BadSymbol {
+        command: u32,
+    },
+    BadGoal {
+        command: u32,
+    },
+    UnknownName {
+        node: u64,
+        name: Ident,
+    },
+    OutOfFragment {
+        node: u64,
+    },
+    /// The types stand in a place of that level.
+    IllTyped {
+        node: u64,
+        want: Want,
+        found: Lp,
+        level: u32,
+    },
+}
+
 /// The refusals, in the order in which they are looked for.
-#[derive(Debug, Drop)]
+#[derive(Drop)]
 pub enum Refusal {
     /// The words ask for no command.
     Words,
@@ -67,10 +100,14 @@ pub enum Refusal {
     TooLong(File),
     /// No item begins at the byte, which is counted from 0.
     NotTptp { file: File, at: u64 },
-    /// The item that begins at the byte is nested too deep.
+    /// The item or the command that begins at the byte is nested too deep.
     TooDeep { file: File, at: u64 },
     /// The file has more items than the limit.
     TooManyItems(File),
+    /// No command of a development begins at the byte, which is counted from 0.
+    NotLp { at: u64 },
+    /// The development is read, and not typed.
+    NotTyped(TypeFault),
     /// The first item at fault of the problem, counted from 1.
     Item { item: u32, fault: ItemFault },
     /// The first step at fault, counted from 1.
@@ -92,6 +129,7 @@ impl File {
         match self {
             File::Problem => "problem",
             File::Trace => "trace",
+            File::Development => "file",
         }
     }
 }
@@ -114,12 +152,13 @@ impl Refusal {
         match self {
             Refusal::Words => Status::Words,
             Refusal::ReadFault(_) => Status::ReadFault,
-            Refusal::NotTptp { .. } => Status::Text,
+            Refusal::NotTptp { .. } | Refusal::NotLp { .. } => Status::Text,
             Refusal::TooLong(_) | Refusal::TooDeep { .. } | Refusal::TooManyItems(_) => {
                 Status::Limit
             }
             Refusal::Item { .. } | Refusal::NoRefutation => Status::Input,
             Refusal::Step { fault, .. } => fault.status(),
+            Refusal::NotTyped(_) => Status::IllTyped,
             Refusal::Unbuilt(_) => Status::Unbuilt,
             Refusal::WriteFault => Status::WriteFault,
             Refusal::Memory => Status::Memory,
@@ -135,17 +174,23 @@ impl Refusal {
             Refusal::Words => Some("words: see --help"),
             Refusal::ReadFault(File::Problem) => Some("read fault: problem"),
             Refusal::ReadFault(File::Trace) => Some("read fault: trace"),
+            Refusal::ReadFault(File::Development) => Some("read fault: file"),
             Refusal::TooLong(File::Problem) => Some("too long: problem"),
             Refusal::TooLong(File::Trace) => Some("too long: trace"),
+            Refusal::TooLong(File::Development) => Some("too long: file"),
             Refusal::TooManyItems(File::Problem) => Some("too many items: problem"),
             Refusal::TooManyItems(File::Trace) => Some("too many items: trace"),
+            Refusal::TooManyItems(File::Development) => Some("too many items: file"),
             Refusal::NoRefutation => Some("no refutation"),
             Refusal::Unbuilt(File::Problem) => Some("not built: problem"),
             Refusal::Unbuilt(File::Trace) => Some("not built: trace"),
+            Refusal::Unbuilt(File::Development) => Some("not built: file"),
             Refusal::WriteFault => Some("write fault"),
             Refusal::Memory => Some("out of memory"),
             Refusal::NotTptp { .. }
             | Refusal::TooDeep { .. }
+            | Refusal::NotLp { .. }
+            | Refusal::NotTyped(_)
             | Refusal::Item { .. }
             | Refusal::Step { .. } => None,
         }
@@ -159,6 +204,8 @@ impl Refusal {
         match self {
             Refusal::NotTptp { file, at } => place_line(alloc, "not TPTP: ", *file, *at),
             Refusal::TooDeep { file, at } => place_line(alloc, "too deep: ", *file, *at),
+            Refusal::NotLp { at } => counted_line(alloc, "not Lambdapi: file at byte ", *at),
+            Refusal::NotTyped(fault) => type_fault_line(alloc, fault),
             Refusal::Item { item, fault } => {
                 let why = item_fault_line(alloc, fault)?;
                 numbered_line(alloc, "problem item ", *item, why.as_str())

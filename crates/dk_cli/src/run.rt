@@ -1,8 +1,10 @@
 //! The top call: an answer, written or told.
-ghost use Rattle.std.specs.Prelude.{◌≡◌, ◌<◌, ◌⊎◌, ◌↔◌, None, Some, IfSome};
+ghost use Rattle.std.specs.Prelude.{◌≡◌, ℕ, List, ◌<◌, ◌⊎◌, ◌↔◌, None, Some, IfSome};
 ghost use Rattle.dk_io.specs.Causes.{Rose};
-ghost use Rattle.dk_cli.specs.Commands.{Names, texts, command_of, convert, steps};
+ghost use Rattle.dk_cli.specs.Checking.{TypesAccepted, WritesTyped};
+ghost use Rattle.dk_cli.specs.Commands.{Names, texts, command_of, check, convert, extract, steps};
 ghost use Rattle.dk_cli.specs.Delivery.{Delivers, IsRefused, change};
+ghost use Rattle.dk_cli.specs.Extraction.{WritesProblems};
 ghost use Rattle.dk_cli.specs.Headline.{CanCome, CarriesOutEach, DoesOutcome, IsRun, Lacks, NotesByStatus, WritesByStatus};
 ghost use Rattle.dk_cli.specs.Proof.{WritesProof};
 ghost use Rattle.dk_cli.specs.Refusals.{HasNumber};
@@ -100,7 +102,7 @@ pub fn run<R: Threads + Sync, I: Inputs, K: Sink, N: Notes, G: Gate>(
         (change (N.kept notes.old) (N.kept notes.new) (N.faults notes.old) (N.faults notes.new)) }
 
     // What can come, and what each status says of the sink and of the notes.
-    ensures statuses { CanCome result }
+    ensures statuses { IfSome (command_of (texts words.now)) (λ command. CanCome command result) }
     ensures sink { WritesByStatus result (change (K.kept out.old) (K.kept out.new)
         (K.faults out.old) (K.faults out.new)) }
     ensures line { NotesByStatus result (change (N.kept notes.old) (N.kept notes.new)
@@ -130,6 +132,20 @@ pub fn run<R: Threads + Sync, I: Inputs, K: Sink, N: Notes, G: Gate>(
     // With status 0 what `steps` wrote are the lines of the verdicts on the steps, right or wrong.
     ensures lines { (names : Names) → command_of (texts words.now) ≡ Some (steps names)
         → result ≡ Status.Done → WritesLines (I.told inputs.old) names
+        (change (K.kept out.old) (K.kept out.new) (K.faults out.old) (K.faults out.new)) }
+
+    // With status 0 what `extract` wrote are the derived steps as problems.
+    ensures problems { (names : Names) → command_of (texts words.now) ≡ Some (extract names)
+        → result ≡ Status.Done → WritesProblems (I.told inputs.old) names
+        (change (K.kept out.old) (K.kept out.new) (K.faults out.old) (K.faults out.new)) }
+
+    // With status 0 `check` wrote `typed` and a newline, and the file is a development that is accepted and typed;
+    // of each such file the status is 0.
+    ensures typed { (name : List ℕ) → command_of (texts words.now) ≡ Some (check name)
+        → result ≡ Status.Done → WritesTyped (I.told inputs.old) name
+        (change (K.kept out.old) (K.kept out.new) (K.faults out.old) (K.faults out.new)) }
+    ensures accepted { (name : List ℕ) → command_of (texts words.now) ≡ Some (check name)
+        → TypesAccepted (I.told inputs.old) name (I.faults inputs.old) (I.faults inputs.new) result
         (change (K.kept out.old) (K.kept out.new) (K.faults out.old) (K.faults out.new)) }
 
     // Each status, text and line comes exactly where it is the outcome's.

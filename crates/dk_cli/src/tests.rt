@@ -23,14 +23,14 @@ const FRONT: &str = "constant symbol I : TYPE;\nco";
 
 /// The numbers of the calls that fail, 0 for none, and how many bytes the sink has room for.
 #[derive(Clone, Copy)]
-struct Outside {
+pub struct Outside {
     read: u64,
     write: u64,
     note: u64,
     room: usize,
 }
 
-const SOUND: Outside = Outside {
+pub const SOUND: Outside = Outside {
     read: 0,
     write: 0,
     note: 0,
@@ -39,10 +39,10 @@ const SOUND: Outside = Outside {
 
 /// How a run ended: its status, what it wrote, and its lines.
 #[derive(Drop)]
-struct Ran {
-    status: Status,
-    out: Vec<u8>,
-    notes: Vec<u8>,
+pub struct Ran {
+    pub status: Status,
+    pub out: Vec<u8>,
+    pub notes: Vec<u8>,
 }
 
 impl Ran {
@@ -81,7 +81,7 @@ fn line_of(alloc: Global, words: &[&str]) -> Result<Vec<String>, Fail> {
     Ok(line)
 }
 
-fn run_on<R: Threads + Sync + AllocGlobal>(
+pub fn run_on<R: Threads + Sync + AllocGlobal>(
     rt: &R,
     words: &[&str],
     problem: &str,
@@ -366,6 +366,43 @@ fn each_call_of_the_outside_may_fail(rt: HostRuntime) -> Result<(), Fail> {
         },
     )?;
     assert!(rt; found.status == Status::WriteFault && found.out.as_slice() == FRONT.as_bytes());
+    Ok(())
+}
+
+/// What `check` does with a text.
+fn checked<R: Threads + Sync + AllocGlobal>(rt: &R, parts: &[&str]) -> Result<Ran, Fail> {
+    let text = joined(rt.alloc(), parts)?;
+    run_on(rt, &["check", "p"], text.as_str(), b"", SOUND)
+}
+
+#[test]
+fn developments_are_typed_or_their_first_fault_is_named(rt: HostRuntime) -> Result<(), Fail> {
+    let written = run_outside(&rt, SOUND)?;
+    let text = std::str::from_utf8(written.out.as_slice()).map_err(|_| "no text")?;
+    let found = checked(&rt, &[text])?;
+    assert!(rt; found.status == Status::Done && found.notes.is_empty());
+    assert!(rt; found.out.as_slice() == "typed\n".as_bytes());
+
+    let (front, rest) = text.split_once("(or v0 (not v0))").ok_or("no em")?;
+    let found = checked(&rt, &[front, "v0", rest])?;
+    assert!(rt; found.is_refusal(Status::IllTyped, "bad prelude: command 23\n"));
+
+    let (front, rest) = text.split_once("v3 v0").ok_or("no v3")?;
+    let found = checked(&rt, &[front, "v3 v1", rest])?;
+    let line = "ill typed at node 80: expected Prf p0_p, found Prf p0_p → Π (v5 : Prop), Prf v5\n";
+    assert!(rt; found.is_refusal(Status::IllTyped, line));
+
+    let (front, rest) = text.split_once("symbol goal").ok_or("no goal")?;
+    let again = "constant symbol p0_p : Prop;\nsymbol goal";
+    let found = checked(&rt, &[front, again, rest])?;
+    assert!(rt; found.is_refusal(Status::IllTyped, "bad symbol: command 25\n"));
+
+    let cut = text.get(..1521).ok_or("shorter")?;
+    let found = checked(&rt, &[cut])?;
+    assert!(rt; found.is_refusal(Status::Text, "not Lambdapi: file at byte 1156\n"));
+
+    let found = run_on(&rt, &["check", "q"], "", b"", SOUND)?;
+    assert!(rt; found.is_refusal(Status::ReadFault, "read fault: file\n"));
     Ok(())
 }
 

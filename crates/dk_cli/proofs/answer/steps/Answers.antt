@@ -1,11 +1,12 @@
 use Rattle.std.proofs.Common.{Err, ap, sym, ◌∙◌}
 use Rattle.std.proofs.lemmas.Result.{err_from_is_err_and}
-use Rattle.dk_cli.specs.Answer.{LacksOneOf}
+use Rattle.dk_cli.specs.Answer.{IsOfTrace, LacksOneOf}
 use Rattle.dk_cli.specs.Commands.{steps, files_of_names}
 use Rattle.dk_cli.specs.StepReport.{IsReported}
 use Rattle.dk_cli.specs.Derivations.{IsDerivationAt}
 use Rattle.dk_cli.specs.Steps.{answer_view, names_view}
-use Rattle.dk_cli.proofs.Continued.{answers_command, goes_on_told, stops_told}
+use Rattle.dk_cli.proofs.Continued.{after_derivation, answers_command, goes_on_told, stops_told}
+use Rattle.dk_cli.proofs.DerivationLaws.{IsLater}
 use Rattle.dk_cli.proofs.JudgingLaws.{reported_later}
 use Rattle.dk_cli.proofs.answer.steps.Goals as goal
 
@@ -15,7 +16,7 @@ returns-in_err-derivation-clause-answers g c =
     let told = g.I.Inputs.told c.args.inputs.now in
     let end = err_from_is_err_and c.from_residual.result c.from_residual.ensures.1 in
     answers_command told (steps names) _ _ (answer_view c.from_residual.result)
-    (stops_told told (LacksOneOf told (files_of_names names)) (IsDerivationAt names) IsReported _ _ c.derivation_of.result end.0 (answer_view c.from_residual.result)
+    (stops_told told (LacksOneOf told (files_of_names names)) IsOfTrace (IsDerivationAt names) IsReported _ _ c.derivation_of.result end.0 (answer_view c.from_residual.result)
     (c.in_err-derivation.was ∙ ap Err (sym end.2)) (ap answer_view end.1) c.derivation_of.ensures.answers)
 
 pub returns-clause-answers : goal.returns-clause-answers
@@ -23,5 +24,5 @@ returns-clause-answers g c =
     let names = names_view c.args.names in
     let told = g.I.Inputs.told c.args.inputs.now in
     answers_command told (steps names) _ _ (answer_view c.reported.result)
-    (goes_on_told told (LacksOneOf told (files_of_names names)) (IsDerivationAt names) IsReported _ _ c.derivation_of.result c.in_ok-derivation.derivation (answer_view c.reported.result)
+    (goes_on_told told (LacksOneOf told (files_of_names names)) IsOfTrace (IsDerivationAt names) IsReported _ _ IsLater after_derivation c.derivation_of.result c.in_ok-derivation.derivation (answer_view c.reported.result)
     c.in_ok-derivation.was c.derivation_of.ensures.answers (reported_later c.in_ok-derivation.derivation) c.reported.ensures)

@@ -1,10 +1,12 @@
 use Rattle.dk_cli.proofs.Carried.{can_come, notes_by, read_lacks, read_only, read_rose, some_carries, some_does, words_count, words_if, words_only, writes_by}
 use Rattle.dk_cli.proofs.Proved.{writes_proof}
 use Rattle.dk_cli.proofs.Reported.{writes_lines}
+use Rattle.dk_cli.proofs.Extracted.{writes_problems}
+use Rattle.dk_cli.proofs.Accepted.{types_accepted, writes_typed}
 use Rattle.dk_cli.proofs.run.run.Goals as goal
 
 pub returns-clause-statuses : goal.returns-clause-statuses
-returns-clause-statuses g c = let run = c.run_answered.ensures.run in can_come run.answer _ _ _ run.delivers
+returns-clause-statuses g c = let run = c.run_answered.ensures.run in can_come _ _ _ _ run.answer _ _ _ run.answers run.delivers
 
 pub returns-clause-sink : goal.returns-clause-sink
 returns-clause-sink g c = let run = c.run_answered.ensures.run in writes_by _ _ _ _ run.answer _ _ _ run.answers run.delivers
@@ -47,3 +49,12 @@ returns-clause-read_only g c = λ fault. let run = c.run_answered.ensures.run in
 
 pub returns-clause-lines : goal.returns-clause-lines
 returns-clause-lines g c = λ names asked done. let run = c.run_answered.ensures.run in writes_lines _ _ _ _ run.answer _ _ _ run.answers run.delivers names asked done
+
+pub returns-clause-problems : goal.returns-clause-problems
+returns-clause-problems g c = λ names asked done. let run = c.run_answered.ensures.run in writes_problems _ _ _ _ run.answer _ _ _ run.answers run.delivers names asked done
+
+pub returns-clause-typed : goal.returns-clause-typed
+returns-clause-typed g c = λ name asked done. let run = c.run_answered.ensures.run in writes_typed _ _ _ _ run.answer _ _ _ run.answers run.delivers name asked done
+
+pub returns-clause-accepted : goal.returns-clause-accepted
+returns-clause-accepted g c = λ name asked. let run = c.run_answered.ensures.run in types_accepted _ _ _ _ run.answer _ _ _ run.answers run.delivers name asked

@@ -1,0 +1,6 @@
+use Rattle.dk_cli.specs.Checking.{IsDevelopmentIn}
+use Rattle.dk_cli.proofs.StageLaws.{answered}
+use Rattle.dk_cli.proofs.checking.development_in.Goals as goal
+
+pub returns : goal.returns
+returns c = answered (IsDevelopmentIn c.args.bytes.now) c.told_development.result (c.read_dev.result, c.read_dev.ensures.answer, c.told_development.ensures)

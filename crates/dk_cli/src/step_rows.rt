@@ -1,0 +1,205 @@
+//! Worked traces whose every step is listed: what is right and why, and each wrong step by its reason.
+use super::*;
+use crate::tests::{SOUND, run_on};
+use std::test::Fail;
+use std::thread::Threads;
+
+/// A problem, a trace, and the line on each of its steps.
+#[derive(Clone, Copy)]
+struct Row<'a> {
+    problem: &'a str,
+    trace: &'a str,
+    lines: &'a str,
+}
+
+/// Steps by one parent: images, images of regrouped formulas, and images whose clauses are taken at once.
+const IMAGES: [Row; 6] = [
+    // The drinker: a negated conjecture, its image, and the image's clauses.
+    Row {
+        problem: "fof(g,conjecture,?[X]:(p(X)=>![Y]:p(Y))).",
+        trace: "fof(g,conjecture,?[X]:(p(X)=>![Y]:p(Y)),file(x,g)).
+fof(n,negated_conjecture,~?[X]:(p(X)=>![Y]:p(Y)),inference(n,[status(cth)],[g])).
+fof(m,plain,![X]:(p(X)&?[Y]:~p(Y)),inference(f,[status(thm)],[n])).
+fof(s,plain,![X]:(p(X)&~p(f(X))),inference(k,[status(esa)],[m])).
+cnf(c1,plain,p(X),inference(c,[status(thm)],[s])).
+cnf(c2,plain,~p(f(X)),inference(c,[status(thm)],[s])).
+cnf(e,plain,$false,inference(r,[status(thm)],[c1,c2])).",
+        lines: "1 g conjecture\n2 n structural\n3 m structural\n4 s structural\n5 c1 clausal\n6 c2 clausal\n7 e clausal\n",
+    },
+    // The symbol lacks the universal that is free in the existential.
+    Row {
+        problem: "fof(a,axiom,![Y]:?[X]:p(X,Y)).",
+        trace: "fof(a,axiom,![Y]:?[X]:p(X,Y),file(x,a)).
+fof(s,plain,![Y]:p(f,Y),inference(k,[status(esa)],[a])).
+cnf(e,plain,$false,inference(r,[status(thm)],[s])).",
+        lines: "1 a leaf\n2 s wrong: not a Skolem image\n3 e wrong: unjustified clause 0\n",
+    },
+    // An image of a formula whose sides changed places.
+    Row {
+        problem: "fof(a1,axiom,![X]:((p(X)&?[Y]:r(X,Y))|q)). fof(a2,axiom,~q). fof(a3,axiom,![X,Y]:~r(X,Y)).",
+        trace: "fof(a1,axiom,![X]:((p(X)&?[Y]:r(X,Y))|q),file(x,a1)).
+fof(a2,axiom,~q,file(x,a2)).
+fof(a3,axiom,![X,Y]:~r(X,Y),file(x,a3)).
+fof(m,plain,![X]:(q|((?[Y]:r(X,Y))&p(X))),inference(f,[status(thm)],[a1])).
+fof(s,plain,![X]:(q|(r(X,f(X))&p(X))),inference(k,[status(esa)],[m])).
+cnf(d,plain,q,inference(r,[status(thm)],[s,a3])).
+cnf(e,plain,$false,inference(r,[status(thm)],[d,a2])).",
+        lines: "1 a1 leaf\n2 a2 leaf\n3 a3 leaf\n4 m structural\n5 s structural\n6 d clausal\n7 e clausal\n",
+    },
+    // An image whose sides changed places too: its clauses follow from those of an image.
+    Row {
+        problem: "fof(a1,axiom,![X]:((p(X)&?[Y]:r(X,Y))|q)).",
+        trace: "fof(a1,axiom,![X]:((p(X)&?[Y]:r(X,Y))|q),file(x,a1)).
+fof(m,plain,![X]:(q|((?[Y]:r(X,Y))&p(X))),inference(f,[status(thm)],[a1])).
+fof(s,plain,![X]:((r(X,f(X))&p(X))|q),inference(k,[status(esa)],[m])).",
+        lines: "1 a1 leaf\n2 m structural\n3 s composed\n",
+    },
+    // One clause of an image; its symbol is not new later.
+    Row {
+        problem: "fof(a1,axiom,![X]:?[Y]:(r(X,Y)&s(Y))). fof(a2,axiom,![X]:~s(X)). fof(a3,axiom,![X]:?[Z]:q(X,Z)).",
+        trace: "fof(a1,axiom,![X]:?[Y]:(r(X,Y)&s(Y)),file(x,a1)).
+fof(a2,axiom,![X]:~s(X),file(x,a2)).
+cnf(c,plain,s(f(X)),inference(split_conjunct,[status(thm)],[inference(skolemize,[status(esa)],[a1])])).
+cnf(e,plain,$false,inference(r,[status(thm)],[c,a2])).
+fof(a3,axiom,![X]:?[Z]:q(X,Z),file(x,a3)).
+fof(g,plain,![X]:q(X,f(X)),inference(k,[status(esa)],[a3])).",
+        lines: "1 a1 leaf\n2 a2 leaf\n3 c composed\n4 e clausal\n5 a3 leaf\n6 g wrong: not fresh: f\n",
+    },
+    // The same with a symbol without an argument.
+    Row {
+        problem: "fof(a1,axiom,![X]:?[Y]:(r(X,Y)&s(Y))).",
+        trace: "fof(a1,axiom,![X]:?[Y]:(r(X,Y)&s(Y)),file(x,a1)).
+cnf(c,plain,s(f),inference(split_conjunct,[status(thm)],[inference(skolemize,[status(esa)],[a1])])).",
+        lines: "1 a1 leaf\n2 c wrong: not a Skolem image\n",
+    },
+];
+
+/// Leaves, symbols that are not new, and steps by several parents.
+const OTHERS: [Row; 6] = [
+    // A leaf is compared up to the names of its variables.
+    Row {
+        problem: "fof(a,axiom,![X]:p(X)). fof(b,axiom,![X]:p(X)).",
+        trace: "fof(a,axiom,![Y]:p(Y),file(x,a)).\nfof(b,axiom,![X]:~p(X),file(x,b)).",
+        lines: "1 a leaf\n2 b wrong: altered leaf\n",
+    },
+    // Two steps introduce one symbol for two existentials.
+    Row {
+        problem: "fof(a,axiom,?[X]:p(X)). fof(b,axiom,?[X]:q(X)).",
+        trace: "fof(a,axiom,?[X]:p(X),file(x,a)).
+fof(b,axiom,?[X]:q(X),file(x,b)).
+fof(c,plain,?[Y]:p(Y),inference(v,[status(thm)],[a])).
+fof(d,plain,p(f),inference(k,[status(esa)],[c])).
+cnf(e,plain,p(f),inference(v,[status(thm)],[d])).
+fof(g,plain,?[Y]:q(Y),inference(v,[status(thm)],[b])).
+fof(h,plain,q(f),inference(k,[status(esa)],[g])).",
+        lines: "1 a leaf\n2 b leaf\n3 c structural\n4 d structural\n5 e structural\n6 g structural\n7 h wrong: not fresh: f\n",
+    },
+    // A symbol of the problem in an item that the trace doesn't use.
+    Row {
+        problem: "fof(a,axiom,?[X]:p(X)). fof(b,axiom,s(f)).",
+        trace: "fof(a,axiom,?[X]:p(X),file(x,a)).\nfof(k,plain,p(f),inference(k,[status(esa)],[a])).",
+        lines: "1 a leaf\n2 k wrong: not fresh: f\n",
+    },
+    // The parents of a chain are taken in order.
+    Row {
+        problem: "cnf(a1,axiom,p). cnf(a2,axiom,~p|q). cnf(a3,axiom,~q).",
+        trace: "cnf(a1,axiom,p,file(x,a1)).
+cnf(a2,axiom,~p|q,file(x,a2)).
+cnf(a3,axiom,~q,file(x,a3)).
+cnf(c,plain,$false,inference(r,[status(thm)],[a1,a2,a3])).
+cnf(d,plain,$false,inference(r,[status(thm)],[a1,a3,a2])).",
+        lines: "1 a1 leaf\n2 a2 leaf\n3 a3 leaf\n4 c chained\n5 d wrong: unjustified clause 0\n",
+    },
+    // The conjecture is no hypothesis, and a hypothesis no conjecture.
+    Row {
+        problem: "cnf(a,axiom,p). fof(g,conjecture,p).",
+        trace: "cnf(a,axiom,p,file(x,a)).
+fof(g,conjecture,p,file(x,g)).
+cnf(b,plain,p,inference(r,[status(thm)],[g])).
+cnf(c,plain,~p,inference(n,[status(cth)],[a])).",
+        lines: "1 a leaf\n2 g conjecture\n3 b wrong: conjecture as parent\n4 c wrong: not the conjecture\n",
+    },
+    // An existential that is left.
+    Row {
+        problem: "fof(a,axiom,?[X]:p(X)). fof(b,axiom,q).",
+        trace: "fof(a,axiom,?[X]:p(X),file(x,a)).
+fof(b,axiom,q,file(x,b)).
+cnf(c,plain,q,inference(r,[status(thm)],[a,b])).",
+        lines: "1 a leaf\n2 b leaf\n3 c wrong: existential left\n",
+    },
+];
+
+/// A trace in the manner of E.
+const OF_E: Row = Row {
+    problem: "% the problem\nfof(man,axiom,![X]:(man(X)=>mortal(X))).\nfof(soc,axiom,man(socrates)).\nfof(goal,conjecture,?[X]:mortal(X)).\n",
+    trace: "# SZS status Theorem
+% SZS output start CNFRefutation
+fof(goal, conjecture, (?[X1]:(mortal(X1))), file('soc.p', goal)).
+fof(man, axiom, (![X1]:((man(X1)=>mortal(X1)))), file('soc.p', man)).
+fof(soc, axiom, (man(socrates)), file('soc.p', soc)).
+fof(c_0_3, negated_conjecture, (~((?[X1]:(mortal(X1))))), inference(assume_negation,[status(cth)],[goal])).
+fof(c_0_4, negated_conjecture, (![X2]:(~mortal(X2))), inference(variable_rename,[status(thm)],[inference(fof_nnf,[status(thm)],[c_0_3])])).
+fof(c_0_5, plain, (![X2]:((~man(X2)|mortal(X2)))), inference(variable_rename,[status(thm)],[inference(fof_nnf,[status(thm)],[man])])).
+cnf(c_0_6, negated_conjecture, (~mortal(X1)), inference(split_conjunct,[status(thm)],[c_0_4])).
+cnf(c_0_7, plain, (mortal(X1)|~man(X1)), inference(split_conjunct,[status(thm)],[c_0_5])).
+cnf(c_0_8, plain, (man(socrates)), inference(split_conjunct,[status(thm)],[soc])).
+cnf(c_0_9, negated_conjecture, (~man(X1)), inference(spm,[status(thm)],[c_0_6, c_0_7])).
+cnf(c_0_10, negated_conjecture, ($false), inference(sr,[status(thm)],[c_0_8, c_0_9]), ['proof']).
+% SZS output end CNFRefutation
+",
+    lines: "1 goal conjecture\n2 man leaf\n3 soc leaf\n4 c_0_3 structural\n5 c_0_4 structural\n6 c_0_5 structural\n7 c_0_6 structural\n8 c_0_7 structural\n9 c_0_8 structural\n10 c_0_9 clausal\n11 c_0_10 clausal\n",
+};
+
+fn is_listed<R: Threads + Sync + AllocGlobal>(rt: &R, row: &Row) -> Result<bool, Fail> {
+    let found = run_on(
+        rt,
+        &["steps", "p", "t"],
+        row.problem,
+        row.trace.as_bytes(),
+        SOUND,
+    )?;
+    let is_done = found.status == Status::Done && found.notes.is_empty();
+    Ok(is_done && found.out.as_slice() == row.lines.as_bytes())
+}
+
+fn are_listed<R: Threads + Sync + AllocGlobal>(rt: &R, rows: &[Row]) -> Result<bool, Fail> {
+    for row in rows {
+        if !is_listed(rt, row)? {
+            return Ok(false);
+        }
+    }
+    Ok(true)
+}
+
+#[test]
+fn images_are_listed(rt: HostRuntime) -> Result<(), Fail> {
+    assert!(rt; are_listed(&rt, &IMAGES)?);
+    Ok(())
+}
+
+#[test]
+fn leaves_and_consequences_are_listed(rt: HostRuntime) -> Result<(), Fail> {
+    assert!(rt; are_listed(&rt, &OTHERS)?);
+    assert!(rt; is_listed(&rt, &OF_E)?);
+    Ok(())
+}
+
+#[test]
+fn derived_steps_are_problems(rt: HostRuntime) -> Result<(), Fail> {
+    let problem = "cnf(a1,axiom,p).\ncnf(a2,axiom,~p).\n";
+    let trace = "cnf(a1,axiom,p,file(x,a1)).
+cnf(a2,axiom,~p,file(x,a2)).
+cnf(c,plain,$false,inference(r,[status(thm)],[a1,a2])).
+";
+    let text = "% step 3 c\nfof(a1,axiom,p).\nfof(a2,axiom,~p).\nfof(c,conjecture,$false).\n";
+    let found = run_on(
+        &rt,
+        &["extract", "p", "t"],
+        problem,
+        trace.as_bytes(),
+        SOUND,
+    )?;
+    assert!(rt; found.status == Status::Done && found.notes.is_empty());
+    assert!(rt; found.out.as_slice() == text.as_bytes());
+    Ok(())
+}

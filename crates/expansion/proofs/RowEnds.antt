@@ -80,7 +80,7 @@ row_grounded row terms h =
     ∙ ap (λ (v : ℕ → Term). map (instance v) row.lits) (sym (fun_ext (at_place quants terms h)))
     ∙ sym (lits_renamed terms quants row.lits)
 
-grounded : (image : Nf) (place : ℕ) (row : ClauseRow) (terms : List Term) → Entry (clause_rows image) place row → length terms ≡ row.clause.vars
+pub grounded : (image : Nf) (place : ℕ) (row : ClauseRow) (terms : List Term) → Entry (clause_rows image) place row → length terms ≡ row.clause.vars
     → map (instance (assigned row.quants terms)) (literals_of row) ≡ ground_clause row terms
 grounded image place row terms h many =
     let from = entry_of_map row_of ((rows_of image).1 0 []) h in
@@ -89,10 +89,10 @@ grounded image place row terms h many =
 
 -- ---- the ends
 
-none_owned : Owned [] []
+pub none_owned : Owned [] []
 none_owned y n h = cc
 
-closed_agrees : (leaf : Nf) (v : ℕ → Term) → IsClosedForm leaf → Agrees v [] Var (form_of leaf) (λ k. Any)
+pub closed_agrees : (leaf : Nf) (v : ℕ → Term) → IsClosedForm leaf → Agrees v [] Var (form_of leaf) (λ k. Any)
 closed_agrees leaf v h k i = absurd (let a = sym (free_is leaf k) ∙ i in let b = h k in cc)
 
 -- the choices of a row's thin tree lead through the form to the row's ground clause

@@ -38,7 +38,7 @@ alls_image (i_put g s u e b m d symbol args ys fits p) = alls_image p
 abbrev pub Owned : List Kept → List ℕ → Type 0
 Owned g around = (y n : ℕ) → binder g y ≡ universal n → owner around y ≡ n
 
-owned_more : (u : ℕ) (g : List Kept) (around : List ℕ) → Owned g around → Owned (universal u ∷ g) (u ∷ around)
+pub owned_more : (u : ℕ) (g : List Kept) (around : List ℕ) → Owned g around → Owned (universal u ∷ g) (u ∷ around)
 owned_more u g around w zero n h = let e : u ≡ n = cc in e
 owned_more u g around w (suc y) n h = w y n h
 
@@ -48,7 +48,7 @@ owned_more u g around w (suc y) n h = w y n h
 abbrev pub Agrees : (ℕ → Term) → List ℕ → (ℕ → Term) → Form → (ℕ → Term) → Type 0
 Agrees v around s n t = (k : ℕ) → free k n ≡ true → substituted (λ j. v (owner around j)) (s k) ≡ t k
 
-agrees_all : (v : ℕ → Term) (around : List ℕ) (s : ℕ → Term) (a : Form) (t : ℕ → Term) (u : ℕ)
+pub agrees_all : (v : ℕ → Term) (around : List ℕ) (s : ℕ → Term) (a : Form) (t : ℕ → Term) (u : ℕ)
     → Agrees v around s (all a) t → Agrees v (u ∷ around) (up s) a (with_term (v u) t)
 agrees_all v around s a t u w zero h = substituted-Var (λ j. v (owner (u ∷ around) j)) 0
 agrees_all v around s a t u w (suc k) h =
@@ -56,7 +56,7 @@ agrees_all v around s a t u w (suc k) h =
     ∙ agree (λ n. substituted (λ j. v (owner (u ∷ around) j)) (Var (suc n))) (λ j. v (owner around j)) (s k) (λ n i. substituted-Var (λ j. v (owner (u ∷ around) j)) (suc n))
     ∙ w k h
 
-agrees_put : (v : ℕ → Term) (around : List ℕ) (s : ℕ → Term) (a : Form) (t : ℕ → Term) (put there : Term)
+pub agrees_put : (v : ℕ → Term) (around : List ℕ) (s : ℕ → Term) (a : Form) (t : ℕ → Term) (put there : Term)
     → substituted (λ j. v (owner around j)) put ≡ there → Agrees v around s (ex a) t → Agrees v around (with_term put s) a (with_term there t)
 agrees_put v around s a t put there e w zero h = e
 agrees_put v around s a t put there e w (suc k) h = w k h
@@ -77,12 +77,12 @@ args_there v around g o (y ∷ ys) (n ∷ args) h =
     (substituted-Var (λ j. v (owner around j)) y ∙ ap v (o y n (first_kept (binder g y) (universal n) (map (binder g) ys) (map universal args) h)))
     (args_there v around g o ys args (rest_kept (binder g y) (universal n) (map (binder g) ys) (map universal args) h))
 
-term_there : (v : ℕ → Term) (around : List ℕ) (g : List Kept) → Owned g around → (f : SymKey) (ys args : List ℕ) → map (binder g) ys ≡ map universal args
+pub term_there : (v : ℕ → Term) (around : List ℕ) (g : List Kept) → Owned g around → (f : SymKey) (ys args : List ℕ) → map (binder g) ys ≡ map universal args
     → substituted (λ j. v (owner around j)) (applied f ys) ≡ App f (map v args)
 term_there v around g o f ys args h = substituted-App (λ j. v (owner around j)) f (map Var ys) ∙ ap (App f) (args_there v around g o ys args h)
 
 -- the literal of the row at v is that of the form at t
-literal_there : (v : ℕ → Term) (around : List ℕ) (s t : ℕ → Term) (l : Literal) → Agrees v around s (lit l) t
+pub literal_there : (v : ℕ → Term) (around : List ℕ) (s t : ℕ → Term) (l : Literal) → Agrees v around s (lit l) t
     → instance v (renamed_literal (owner around) (instance s l)) ≡ instance t l
 literal_there v around s t l w =
     instance_renamed v (owner around) (instance s l) ∙ instance_after (λ j. v (owner around j)) s l

@@ -15,7 +15,8 @@
 //!
 //! Laws for the crates above stand in `proofs/TreeLaws` (one list of ends for the same choices, ground terms, what holds of
 //! each end), `proofs/ThinLaws` (the row of an image as a path through the form), `proofs/EntryLaws` (the entries of a map
-//! by their numbers) and `proofs/RowEnds` (the terms of universals, and a row's ground clause).
+//! by their numbers), `proofs/RowEnds` (the terms of universals, and a row's ground clause), `proofs/InstanceLaws` (instances of
+//! literals) and `proofs/Everywhere` (lists).
 #![tactic(auto)]
 
 mod choosing;

@@ -7,6 +7,7 @@ pub mod GroundLaws
 pub mod LabelLaws
 pub mod ListFacts
 pub mod LongerMaps
+pub mod MeetingLaws
 pub mod NeededLaws
 pub mod OneList
 pub mod OrderLaws
@@ -22,4 +23,5 @@ pub mod SiteLaws
 pub mod SpotLaws
 pub mod SymbolTests
 pub mod TermOrders
+pub mod TightLaws
 pub mod WalkSteps

@@ -50,7 +50,7 @@ module _ (s z : ℕ → Term) where
       (agree (outside s n) (outside z n) a (λ k i. outside_same n k (λ j e. h j (or_left (has_variable (j + n) a) (any_true (map (has_variable (j + n)) args)) (subst (λ m. has_variable m a ≡ true) (sym e) i)))))
       (args_same n args (λ k i. h k (or_right (has_variable (k + n) a) (any_true (map (has_variable (k + n)) args)) i)))
 
-  abbrev AreSame : Formula → Type 0
+  abbrev pub AreSame : Formula → Type 0
   AreSame f = (n : ℕ) → ((k : ℕ) → in_formula f (k + n) ≡ true → s k ≡ z k) → put_in s f n ≡ put_in z f n
 
   two_same : (make : Formula → Formula → Formula) (a b : Formula) → AreSame a → AreSame b → (n : ℕ) → ((k : ℕ) → (in_formula a (k + n) || in_formula b (k + n)) ≡ true → s k ≡ z k)
@@ -61,7 +61,7 @@ module _ (s z : ℕ → Term) where
   next : (a : Formula) (n k : ℕ) → in_formula a (k + (n + 1)) ≡ true → in_formula a (suc (k + n)) ≡ true
   next a n k i = let e : k + (n + 1) ≡ suc (k + n) = omega arith in subst (λ m. in_formula a m ≡ true) e i
 
-  formula_same : (f : Formula) → AreSame f
+  pub formula_same : (f : Formula) → AreSame f
   formula_same = formula_induction AreSame
       (λ n w. put-True s n ∙ sym (put-True z n)) (λ n w. put-False s n ∙ sym (put-False z n))
       (λ p args n w. put-Atom s p args n ∙ ap (formula.Atom p) (args_same n args (λ k i. w k (occurs-Atom (k + n) p args ∙ i))) ∙ sym (put-Atom z p args n))
@@ -73,7 +73,7 @@ module _ (s z : ℕ → Term) where
       (λ a h n w. put-All s a n ∙ ap formula.All (h (n + 1) (λ k i. w k (occurs-All (k + n) a ∙ next a n k i))) ∙ sym (put-All z a n))
       (λ a h n w. put-Ex s a n ∙ ap formula.Ex (h (n + 1) (λ k i. w k (occurs-Ex (k + n) a ∙ next a n k i))) ∙ sym (put-Ex z a n))
 
-read_same : (w z : Around → Term) (around : List Around) (k : ℕ) → ((a : Around) → IsAt around k a → w a ≡ z a) → get_or (map w around) k Any ≡ get_or (map z around) k Any
+pub read_same : (w z : Around → Term) (around : List Around) (k : ℕ) → ((a : Around) → IsAt around k a → w a ≡ z a) → get_or (map w around) k Any ≡ get_or (map z around) k Any
 read_same w z [] k h = refl
 read_same w z (b ∷ around) zero h = h b refl
 read_same w z (b ∷ around) (suc k) h = read_same w z around k h

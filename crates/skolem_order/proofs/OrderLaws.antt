@@ -5,7 +5,7 @@ use Rattle.std.specs.Ordering.{is_lt, nat_cmp, ordering_then}
 use Rattle.std.specs.declared.cmp.Ordering.TheVariants.{Equal, Less}
 use Rattle.std.specs.Prelude.{IsTrue}
 use Rattle.std.proofs.lemmas.Grind.{common_steps}
-use Rattle.std.proofs.lemmas.Bool.{cases_Bool, or_cases, or_left, or_right}
+use Rattle.std.proofs.lemmas.Bool.{cases_Bool, eqb-true, or_cases, or_left, or_right}
 use Rattle.std.proofs.lemmas.List.{get_or_past}
 use Rattle.std.proofs.lemmas.List.Elements.{Contains-get_or}
 use Rattle.std.proofs.lemmas.List.Recursion.{is_position_or_len}
@@ -18,7 +18,9 @@ use Rattle.dk_syntax.specs.declared.Term.{Any, App, Term, Var, the_lemmas as of_
 use Rattle.expansion.proofs.EntryLaws.{image_found}
 use Rattle.expansion.specs.Choices.{assigned, skolem_term, term_there}
 use Rattle.normal_form.specs.ClauseLists.{has_number}
+use Rattle.normal_form.specs.Normal.{normal_of}
 use Rattle.normal_form.specs.Renaming.{place_of}
+use Rattle.normal_form.specs.declared.Nf.{Nf}
 use Rattle.skolem_order.proofs.DropLaws.{drops_formula}
 use Rattle.skolem_order.proofs.LabelLaws.{labelled_formula}
 use Rattle.skolem_order.proofs.ListFacts.{contains_cases, contains_first, contains_rest, contains_same, none_in_nil}
@@ -34,7 +36,7 @@ use Rattle.skolem_order.specs.Spots.{Spot, Stands, found, s_all, s_below, s_here
 use Rattle.skolem_order.specs.declared.origins.Origin.{Origin}
 use Rattle.skolem_order.specs.declared.walk.Around.{Around}
 use Rattle.skolem_order.specs.declared.walk.Around.TheVariants.{Existential, Universal, Vacant}
-use Rattle.step_skolem.specs.Images.{entry}
+use Rattle.step_skolem.specs.Images.{entry, IsImage}
 use Rattle.step_skolem.specs.declared.SkEntry.{SkEntry}
 
 -- ---- existentials around have a smaller rank
@@ -147,6 +149,24 @@ assigned_one numbers args n long h =
     let there : place < length args = omega (arith, below, long) in
     subst (Contains args) (sym (ap (λ b. term_there args (cond b (Some place) None)) test)) (Contains-get_or args place Any there)
 
+-- the term of one of the numbers is the number's
+pub assigned_here : (v : ℕ → Term) (numbers : List ℕ) (n : ℕ) → has_number numbers n ≡ true → assigned numbers (map v numbers) n ≡ v n
+assigned_here v numbers n h =
+    let place = position_or_len (λ m. nat_eq m n) numbers in
+    let below : place < length numbers = subst (λ p. p < length numbers) (place_is n numbers) (place_below numbers n h) in
+    let test : nat_lt place (length numbers) ≡ true = grind (arith, below) in
+    ap (λ b. term_there (map v numbers) (cond b (Some place) None)) test ∙ ap (λ p. get_or (map v numbers) p Any) (sym (place_is n numbers)) ∙ read_here numbers h
+  where
+    read_here : (numbers : List ℕ) → has_number numbers n ≡ true → get_or (map v numbers) (place_of numbers n) Any ≡ v n
+    read_here [] h = cc
+    read_here (m ∷ numbers) h = by_test (nat_eq m n) refl (λ r. read_here numbers r) (or_cases (nat_eq m n) (has_number numbers n) h)
+      where
+        by_test : (b : Bool) → nat_eq m n ≡ b → (has_number numbers n ≡ true → get_or (map v numbers) (place_of numbers n) Any ≡ v n) → (b ≡ true) ⊎ (has_number numbers n ≡ true)
+            → get_or (v m ∷ map v numbers) (if b then 0 else 1 + place_of numbers n) Any ≡ v n
+        by_test true e again w = ap v (eqb-true m n e)
+        by_test false e again w =
+            ⊎_elim (λ x. cc) (λ r. let q : 1 + place_of numbers n ≡ suc (place_of numbers n) = omega arith in ap (λ p. get_or (v m ∷ map v numbers) p Any) q ∙ again r) w
+
 -- a term of the list is that of one of the numbers
 mapped : (v : ℕ → Term) (l : List ℕ) (arg : Term) → Contains (map v l) arg → (n : ℕ) × (has_number l n ≡ true) × (arg ≡ v n)
 mapped v [] arg i = absurd (none_in_nil arg i)
@@ -182,17 +202,21 @@ entry_args : (o : Option SkEntry) (symbol : SymKey) (args : List ℕ) → term_o
 entry_args None symbol args h = absurd (App-not-Any symbol (map Var args) (sym h))
 entry_args (Some one) symbol args h = variables_same one.args args (App-injective one.symbol symbol (map Var one.args) (map Var args) h).1
 
--- each entry of a rooted origin's map is found by its number
+every_contained : (p : SkEntry → Type 0) (l : List SkEntry) (x : SkEntry) → Every p l → Contains l x → p x
+every_contained p [] x h i = absurd (none_in_nil x i)
+every_contained p (a ∷ l) x (every_cons q h) i = ⊎_elim (λ e. subst p e q) (λ r. every_contained p l x h r) (contains_cases a l x i)
+
+-- each entry of a map that leads to an image is found by its number
+pub entry_found : (v : ℕ → Term) (n image : Nf) (entries : List SkEntry) → IsImage n entries image → (one : SkEntry) → Contains entries one
+    → skolem_term v entries one.ex ≡ App one.symbol (map v one.args)
+entry_found v n image entries leads one c =
+    let each = subst (λ l. Every (λ x. skolem_term v l x.ex ≡ App x.symbol (map v x.args)) entries) (append-nil entries) (image_found v leads [] [] every_nil) in
+    every_contained (λ x. skolem_term v entries x.ex ≡ App x.symbol (map v x.args)) entries one each c
+
+-- so is each entry of a rooted origin's map
 pub skolem_at : (os : List Origin) (origin : Origin) → IsRooted os origin → (v : ℕ → Term) (one : SkEntry) → Contains origin.map.entries one
     → skolem_term v origin.map.entries one.ex ≡ App one.symbol (map v one.args)
-skolem_at os origin rooted v one c =
-    let entries = origin.map.entries in
-    let each = subst (λ l. Every (λ x. skolem_term v l x.ex ≡ App x.symbol (map v x.args)) entries) (append-nil entries) (image_found v rooted.leads [] [] every_nil) in
-    every_contained (λ x. skolem_term v entries x.ex ≡ App x.symbol (map v x.args)) entries one each c
-  where
-    every_contained : (p : SkEntry → Type 0) (l : List SkEntry) (x : SkEntry) → Every p l → Contains l x → p x
-    every_contained p [] x h i = absurd (none_in_nil x i)
-    every_contained p (a ∷ l) x (every_cons q h) i = ⊎_elim (λ e. subst p e q) (λ r. every_contained p l x h r) (contains_cases a l x i)
+skolem_at os origin rooted v one c = entry_found v (normal_of origin.leaf origin.sign) rooted.image origin.map.entries rooted.leads one c
 
 pub args_at : (os : List Origin) (origin : Origin) → IsRooted os origin → (one : SkEntry) → Contains origin.map.entries one → args_for origin.map.entries one.ex ≡ one.args
 args_at os origin rooted one c =
@@ -224,7 +248,7 @@ module _ (os : List Origin) (rooted : AreRooted os) where
   any_is_none : is_skolem os Any ≡ false
   any_is_none = search (rules, of_terms)
 
-  origin_App : (f : SymKey) (args : List Term) → origin_of_term os (App f args) ≡ origin_for os f
+  pub origin_App : (f : SymKey) (args : List Term) → origin_of_term os (App f args) ≡ origin_for os f
   origin_App f args = search (rules, of_terms)
 
   pub rooted_of : (t : Term) (origin : Origin) → origin_of_term os t ≡ Some origin → IsRooted os origin

@@ -4,12 +4,19 @@ use Rattle.std.specs.List.{Contains}
 use Rattle.std.specs.Ordering.{is_lt}
 use Rattle.dk_syntax.specs.WellFormed.{IsClosed, IsGround, has_no_any, term_has_no_any, well_formed_term}
 use Rattle.dk_syntax.specs.declared.Formula.{Formula}
+use Rattle.dk_syntax.specs.declared.Literal.{Literal}
 use Rattle.dk_syntax.specs.declared.Term.{Term}
+use Rattle.dk_syntax.specs.declared.Term.TheVariants.{Any}
+use Rattle.expansion.specs.Choices.{thin_tree}
+use Rattle.expansion.specs.Rows.{IsGrounded, ground_clause}
+use Rattle.expansion.specs.declared.thin.Thin.{Thin}
 use Rattle.normal_form.specs.Normal.{normal_of}
+use Rattle.normal_form.specs.declared.ClauseRow.{ClauseRow}
 use Rattle.normal_form.specs.declared.Nf.{Nf}
 use Rattle.skolem_order.specs.Covers.{Covered}
+use Rattle.skolem_order.specs.Meetings.{AreSourced, IsOriginAt, Meets}
 use Rattle.skolem_order.specs.Order.{AreNeeded, IsPlaceOf, Mentions, Needed, skolem_order}
-use Rattle.skolem_order.specs.Origins.{origin_formula, origin_of_term}
+use Rattle.skolem_order.specs.Origins.{origin_formula, origin_of_term, put_in, signed}
 use Rattle.skolem_order.specs.Rooted.{AreRooted, HasProperLeaf, HaveFunctions, IsLonger, IsRooted, IsSized}
 use Rattle.skolem_order.specs.SignedForms.{SignedForm, signed_form}
 use Rattle.skolem_order.specs.Spots.{Spot, Stands, found}
@@ -66,3 +73,21 @@ abbrev pub NeededListIsOne : Type 0
 NeededListIsOne =
     (origins : List Origin) (roots : List Term) → HaveFunctions origins → ((t : Term) → Contains roots t → IsTrue (well_formed_term t))
     → (a b : List Term) → AreNeeded origins roots a → AreNeeded origins roots b → a ≡ b
+
+-- the thin tree leads through the signed formula to these literals, and meets origins
+abbrev pub MeetsIn : List Origin → Formula → Bool → Thin → List Literal → Type 0
+MeetsIn origins leaf sign thin ends = Meets origins (λ k. Any) (signed_form leaf sign) thin.picks thin.terms thin.skolems ends
+
+-- At each existential that a row's thin tree meets stands the origin of the term that is chosen. So it is where the origins are as
+-- they should, and each entry of the map has its origin.
+abbrev pub TreesMeetOrigins : Type 0
+TreesMeetOrigins =
+    (origins : List Origin) (leaf : Formula) (sign : Bool) (entries : List SkEntry) (row : ClauseRow) (terms : List Term)
+    → AreRooted origins → AreSourced origins leaf sign entries → IsGrounded (normal_of leaf sign) entries row terms
+    → MeetsIn origins leaf sign (thin_tree sign (normal_of leaf sign) entries row terms) (ground_clause row terms)
+
+-- Where the origin of a term stands, the formula there is the term's origin formula.
+abbrev pub MetFormulasAreOrigins : Type 0
+MetFormulasAreOrigins =
+    (origins : List Origin) (t : Term) (sign : Bool) (f : Formula) (s : ℕ → Term)
+    → IsOriginAt origins t sign f s → origin_formula origins t ≡ signed sign (put_in s f 0)

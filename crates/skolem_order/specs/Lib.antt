@@ -1,6 +1,7 @@
 pub mod Closing
 pub mod Covers
 pub mod Laws
+pub mod Meetings
 pub mod Order
 pub mod Origins
 pub mod Ranks

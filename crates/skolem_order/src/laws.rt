@@ -2,12 +2,14 @@
 ghost use Rattle.skolem_order.specs.Laws.{
   EntriesAreCovered,
   LongerMapsChangeNothing,
+  MetFormulasAreOrigins,
   MentionsPrecede,
   MentionsStandEarlier,
   NeededListIsOne,
   OriginFormulasAreClosed,
   OriginFormulasHaveNoAny,
   SpotsAreFound,
+  TreesMeetOrigins,
 };
 
 /// The existential that stands in a signed form under a number is the one that is found there.
@@ -52,4 +54,11 @@ pub fn mentions_stand_earlier()
 /// the origins are functions.
 pub fn needed_list_is_one()
     ensures { NeededListIsOne }
+{}
+
+/// At each existential that a row's thin tree meets stands the origin of the term that is chosen,
+/// and the formula there is the term's origin formula.
+pub fn trees_meet_origins()
+    ensures trees { TreesMeetOrigins }
+    ensures formulas { MetFormulasAreOrigins }
 {}

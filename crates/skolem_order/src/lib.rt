@@ -17,8 +17,12 @@
 //! of the existentials around it that are free there. Tables have fewer than 2 ^ 32 terms, so that
 //! this ends. Then the Skolem terms of the table are sorted. `eigen` looks through the order.
 //!
-//! Laws for the crates above stand in `proofs/DropLaws` (a signed form without its vacuous
-//! quantifiers is the normal form), `proofs/LabelLaws` (what is free in a signed form),
+//! A row's thin tree goes through the signed leaf too (`specs/Meetings`), and meets at each
+//! existential the origin of the term that is chosen there.
+//!
+//! Laws for the crates above stand in `proofs/SignedLaws` (the signed form of each kind of formula),
+//! `proofs/DropLaws` (a signed form without its vacuous quantifiers is the normal form),
+//! `proofs/MeetingLaws` (thin trees meet origins), `proofs/LabelLaws` (what is free in a signed form),
 //! `proofs/SpotLaws` (one place to a number), `proofs/OriginLaws` (what a map says of the
 //! existentials that it replaces), `proofs/ProperLaws` (nothing is left out of an origin formula),
 //! `proofs/LongerMaps` (a map that grows changes none), `proofs/OrderLaws` (what is mentioned comes
@@ -46,6 +50,7 @@ pub use eigenvariables::eigen;
 pub use laws::{
     entries_are_covered, longer_maps_change_nothing, mentions_precede, mentions_stand_earlier,
     needed_list_is_one, origin_formulas_are_closed, origin_formulas_have_no_any, spots_are_found,
+    trees_meet_origins,
 };
 pub use origin_formula::origin_of;
 pub use origins::{Origin, Origins, Signed};

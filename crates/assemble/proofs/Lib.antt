@@ -1,9 +1,11 @@
 pub mod BodyTypes
 pub mod BuiltLaws
 pub mod FirstRowLaws
+pub mod FittingLaws
 pub mod GoalViews
 pub mod InstanceLaws
 pub mod LevelLaws
 pub mod ProblemLaws
 pub mod SignatureViews
 pub mod SymbolLaws
+pub mod ViewLaws

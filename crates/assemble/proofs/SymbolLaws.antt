@@ -1,5 +1,5 @@
 -- The symbols of a problem's formulas are declared, and its well-formed formulas are over them.
-use Rattle.std.proofs.Common.{◌≡◌, ℕ, Bool, true, false, ◌&&◌, ◌||◌, if◌then◌else◌, List, [], ◌∷◌, ◌++◌, map, Option, Some, None, refl, sym, ap, subst}
+use Rattle.std.proofs.Common.{◌≡◌, ℕ, Bool, true, false, ◌||◌, if◌then◌else◌, List, [], ◌∷◌, ◌++◌, map, Option, Some, None, refl, sym, ap, subst}
 use Rattle.std.specs.List.{list_any}
 use Rattle.dk_syntax.specs.Lists.{Every, every_cons, every_nil}
 use Rattle.dk_syntax.specs.Problems.{HasItsSymbols, formula_of, formulas_of}
@@ -19,7 +19,6 @@ use Rattle.nd_term.specs.Views.{DeclaresSymbol, theory_formula}
 use Rattle.nd_term.proofs.ListLaws.{every_along, every_parts}
 use Rattle.nd_term.proofs.OverLaws.{formula_over}
 use Rattle.assemble.specs.Problem.{declaration_of, declarations_of, gives_proposition, problem_signature, result_type, theory_conclusion, theory_formulas, theory_symbol}
-use Rattle.assemble.specs.ProblemLaws.{IsProper}
 use Rattle.assemble.proofs.ProblemLaws.{signature_extends}
 use Rattle.assemble.proofs.SignatureViews.{view_symbol_type}
 

@@ -1,5 +1,6 @@
 pub mod Body
 pub mod FirstRow
+pub mod Fitting
 pub mod Justification
 pub mod Laws
 pub mod Levels

@@ -1,5 +1,6 @@
 //! Laws of the body. Each function's contract is a law; the bodies do nothing.
 ghost use Rattle.assemble.specs.FirstRow.{RowIsBody, RowIsRight};
+ghost use Rattle.assemble.specs.Fitting.{TreesFit};
 ghost use Rattle.assemble.specs.Laws.{BodyClosed, BodyDeclared, BodyTyped, LetsByLevels};
 ghost use Rattle.assemble.specs.ProblemLaws.{FormulasAreOver, GoalIsClosed, GoalIsSorted, GoalTypeIsTheory, SignatureIsTheory};
 
@@ -33,4 +34,9 @@ pub fn first_row_is_right()
 /// The lets by places are the lets by levels.
 pub fn lets_are_by_levels()
     ensures { LetsByLevels }
+{}
+
+/// A thin tree that meets origins is one that proof terms can consume.
+pub fn trees_fit()
+    ensures { TreesFit }
 {}

@@ -1,9 +1,10 @@
 -- The leaf on which a step stands, and the map that leads from the leaf's form.
-use Rattle.std.specs.Prelude.{◌≡◌, ℕ, Bool, List, [], ◌∷◌, Some}
+use Rattle.std.specs.Prelude.{◌≡◌, ℕ, suc, Bool, List, [], ◌∷◌, length, slice_get, Option, Some, MatchOption}
 use Rattle.dk_syntax.specs.declared.formula.Formula.{Formula}
 use Rattle.ground_instances.specs.Keys.{Has, IsBase, IsLeafVerdict, Judged, parents_at, sign_of, Stands}
 use Rattle.normal_form.specs.Normal.{normal_of}
 use Rattle.normal_form.specs.declared.form.Nf.{Nf}
+use Rattle.plan.specs.declared.maps.StepMap.{StepMap}
 use Rattle.step_check.specs.Steps.{step_in}
 use Rattle.step_check.specs.declared.verdict.Verdict.{Verdict}
 use Rattle.step_check.specs.declared.verdict.Verdict.TheVariants.{Composes}
@@ -49,3 +50,22 @@ module _ (judged : Judged) where
   pub data IsMapOf (i : ℕ) (f : Formula) (sign : Bool) (entries : List SkEntry) : Type 0 where
     to_form : IsMap i f sign entries → IsMapOf i f sign entries
     to_image : IsComposedMap i f sign entries → IsMapOf i f sign entries
+
+  -- no map is the step's
+  abbrev pub HasNoMap : ℕ → Type 0
+  HasNoMap i = (f : Formula) (sign : Bool) (entries : List SkEntry) → IsMapOf i f sign entries → ⊥
+
+  -- it has the number of the step's leaf, the leaf's sign and the step's map
+  pub record IsStepMap (i : ℕ) (it : StepMap) : Type 0 where
+    pub step : Step
+    pub stands : step_in judged.steps it.leaf ≡ Some step
+    pub maps : IsMapOf i step.formula it.sign it.map.entries
+
+  -- the step's map, or none where it has none
+  abbrev pub IsMapAnswer : ℕ → Option StepMap → Type 0
+  IsMapAnswer i answer = MatchOption answer (HasNoMap i) (IsStepMap i)
+
+  -- the maps of the steps, in order
+  pub record AreStepMaps (maps : List (Option StepMap)) : Type 0 where
+    pub long : length maps ≡ length judged.steps
+    pub each : (place : ℕ) (answer : Option StepMap) → slice_get maps place ≡ Some answer → IsMapAnswer (suc place) answer

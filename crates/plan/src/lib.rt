@@ -13,7 +13,9 @@
 #![tactic(auto)]
 
 mod laws;
+mod maps;
 mod plan;
 
-pub use laws::{answers_are_one, origins_are_fit, origins_are_right};
+pub use laws::{answers_are_one, maps_are_over_leaves, origins_are_fit, origins_are_right};
+pub use maps::{StepMap, maps_of};
 pub use plan::{Plan, PlanFault};

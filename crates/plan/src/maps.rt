@@ -1,9 +1,10 @@
 //! The map of each step over a leaf.
-ghost use Rattle.std.specs.Prelude.{IfOk};
-ghost use Rattle.derivation_graph.specs.Graphs.{HasNoCycle, HasStepsForParents};
+ghost use Rattle.std.specs.Prelude.{IfOk, Ok};
+ghost use Rattle.derivation_graph.specs.Graphs.{IsGraphAnswer};
 ghost use Rattle.ground_instances.specs.Keys.{judged_by};
 ghost use Rattle.ground_instances.specs.Verdicts.{AreRightVerdicts};
 ghost use Rattle.plan.specs.Maps.{AreStepMaps};
+ghost use Rattle.step_check.specs.Steps.{nodes_of};
 
 use derivation_graph::Graph;
 use dk_syntax::{NoMemory, Seq};
@@ -30,8 +31,7 @@ pub fn maps_of(
     graph: &Graph,
     verdicts: &Verdicts,
 ) -> Result<Seq<Option<StepMap>>, NoMemory>
-    requires steps { HasStepsForParents graph.now.parents }
-    requires acyclic { HasNoCycle graph.now.parents }
+    requires graph { IsGraphAnswer (nodes_of trace.now) (Ok graph.now) }
     requires right { AreRightVerdicts trace.now graph.now verdicts.now }
     ensures { IfOk result (λ maps. AreStepMaps (judged_by trace.now graph.now verdicts.now) maps) }
 {

@@ -1,10 +1,13 @@
 pub mod ChainLaws
 pub mod Counts
+pub mod Existence
 pub mod FitLaws
 pub mod FitOrigins
 pub mod FreshLists
 pub mod LeafSymbols
+pub mod MapAnswers
 pub mod Membership
 pub mod OneAnswer
+pub mod OriginAnswers
 pub mod OriginLaws
 pub mod StepMaps

@@ -32,7 +32,7 @@ use Rattle.tstp_trace.specs.declared.step.Step.{Step}
 
 -- ---- one base and one leaf
 
-leaf_own : (v : Verdict) → IsLeafVerdict v → IsOwnBase v
+pub leaf_own : (v : Verdict) → IsLeafVerdict v → IsOwnBase v
 leaf_own Leaf h = tt
 leaf_own Conjecture h = tt
 leaf_own (Structural m) h = absurd h
@@ -83,7 +83,8 @@ module _ (judged : Judged) where
       let k : a.step ≡ b.step = same_some (step_in judged.steps b.base) a.step b.step (subst (λ x. step_in judged.steps x ≡ Some a.step) at a.stands) b.stands in
       (sym a.formula ∙ ap (λ (x : Step). x.formula) k ∙ b.formula, sym a.signed ∙ ap sign_of v ∙ b.signed)
 
-  not_composed : {i : ℕ} {f : Formula} {s : Bool} (c : Composed) → Has judged i (Composes c) → HasLeaf judged i f s → ⊥
+  -- a composed step has no leaf for a base
+  pub not_composed : {i : ℕ} {f : Formula} {s : Bool} (c : Composed) → Has judged i (Composes c) → HasLeaf judged i f s → ⊥
   not_composed {i} c h leaf = by_base leaf.from h leaf.here leaf.leaf
     where
       by_base : {i b : ℕ} {v : Verdict} → IsBase judged i b → Has judged i (Composes c) → Has judged b v → IsLeafVerdict v → ⊥

@@ -12,10 +12,13 @@
 //! list of origins, one thin tree).
 #![tactic(auto)]
 
+mod given;
 mod laws;
 mod maps;
+mod origins;
 mod plan;
 
 pub use laws::{answers_are_one, maps_are_over_leaves, origins_are_fit, origins_are_right};
-pub use maps::{StepMap, maps_of};
+pub use maps::{StepMap, map_of_step, maps_of};
+pub use origins::origins_of;
 pub use plan::{Plan, PlanFault};

@@ -10,9 +10,11 @@ use Rattle.dk_syntax.specs.declared.term.Term.{Term}
 use Rattle.ground_instances.specs.Instances.{clauses_in, IsPullAnswer}
 use Rattle.ground_instances.specs.Keys.{Judged}
 use Rattle.ground_instances.specs.Lists.{HasExactTable, instances_of}
+use Rattle.ground_instances.specs.Weights.{IsWeight}
 use Rattle.ground_instances.specs.declared.instance.PullFault.{PullFault}
 use Rattle.ground_instances.specs.declared.instance.PullFault.TheVariants as pull
 use Rattle.plan.specs.Laws.{judged_of}
+use Rattle.plan.specs.Maps.{AreStepMaps}
 use Rattle.plan.specs.Origins.{AreOrigins}
 use Rattle.plan.specs.Thins.{AreThins}
 use Rattle.plan.specs.declared.plan.Plan.{Plan}
@@ -60,6 +62,8 @@ pub record IsPlan (problem : Problem) (trace : Trace) (limit : ℕ) (plan : Plan
   pub right : IsFirstBad plan.verdicts.list None
   pub instances : IsPullAnswer (judged_in problem trace plan.graph plan.verdicts.list) plan.root limit (Ok (instances_of plan.instances))
   pub table : HasExactTable plan.instances
+  pub weight : IsWeight (clauses_in (instances_of plan.instances)) plan.weight
+  pub maps : AreStepMaps (judged_in problem trace plan.graph plan.verdicts.list) plan.maps
   pub thins : AreThins (judged_in problem trace plan.graph plan.verdicts.list) (instances_of plan.instances) plan.thins
   pub origins : AreOrigins (judged_in problem trace plan.graph plan.verdicts.list) plan.origins.list
   pub order : IsOrder plan plan.order
@@ -90,3 +94,13 @@ IsPlanAnswer problem trace limit (Err (Over step over)) = IsBadStep problem trac
 IsPlanAnswer problem trace limit (Err (OverWeight weight)) = IsPullRefusal problem trace limit (pull.OverWeight weight)
 IsPlanAnswer problem trace limit (Err (OverWide step)) = IsPullRefusal problem trace limit (pull.OverWide step)
 IsPlanAnswer problem trace limit (Err Memory) = Unit {0}
+
+-- ---- the first stage
+
+-- The graph of the trace, or why it has none. Only private contracts cite this.
+abbrev pub IsGraphStage : Trace → Result Graph PlanFault → Type 0
+IsGraphStage trace (Ok found) = IsGraphAnswer (nodes_of trace) (Ok found)
+IsGraphStage trace (Err (MissingParent step name)) = IsGraphAnswer (nodes_of trace) (Err (graph.MissingParent step name))
+IsGraphStage trace (Err (Cycle step)) = IsGraphAnswer (nodes_of trace) (Err (graph.Cycle step))
+IsGraphStage trace (Err Memory) = Unit {0}
+IsGraphStage trace (Err other) = ⊥

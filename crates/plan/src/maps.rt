@@ -82,7 +82,7 @@ fn map_above<'m>(
 }
 
 /// The normal form of the map's leaf.
-fn leaf_form(alloc: Global, given: &Given<'_>, above: &StepMap) -> Result<Nf, NoMemory>
+pub fn leaf_form(alloc: Global, given: &Given<'_>, above: &StepMap) -> Result<Nf, NoMemory>
     requires { HasFitLeaf given.now.steps.now above.now }
     ensures { IfOk result (λ form. (step : TraceStep)
         → step_in given.now.steps.now above.now.leaf ≡ Some step

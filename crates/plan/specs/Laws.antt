@@ -1,12 +1,15 @@
 -- What holds of the definitions, for a trace without a bad step and without a cycle.
-use Rattle.std.specs.Prelude.{◌≡◌, ◌⊎◌, Bool, List, [], ◌∷◌, None, Some, ℕ}
+use Rattle.std.specs.Prelude.{◌≡◌, ◌≢◌, ◌⊎◌, Bool, Err, List, [], ◌∷◌, None, Result, Some, ℕ}
 use Rattle.derivation_graph.specs.Graphs.{HasNoCycle}
 use Rattle.dk_syntax.specs.Problems.{HasItsSymbols}
 use Rattle.dk_syntax.specs.WellFormed.{IsWellFormed}
 use Rattle.dk_syntax.specs.declared.formula.Formula.{Formula}
 use Rattle.expansion.specs.declared.thin.Thin.{Thin}
+use Rattle.ground_instances.specs.Instances.{IsPullAnswer}
 use Rattle.ground_instances.specs.Keys.{Has, Judged, parents_at}
 use Rattle.ground_instances.specs.declared.instance.Instance.{Instance}
+use Rattle.ground_instances.specs.declared.instance.PullFault.{PullFault}
+use Rattle.ground_instances.specs.declared.instance.PullFault.TheVariants.{Memory}
 use Rattle.plan.specs.Maps.{HasLeaf, IsComposedMap, IsMap, IsMapOf}
 use Rattle.plan.specs.Origins.{AreFit, AreOrigins, AreRight}
 use Rattle.plan.specs.Thins.{IsThin}
@@ -100,3 +103,10 @@ AreWellFormed steps = (i : ℕ) (step : Step) → step_in steps i ≡ Some step 
 abbrev pub OriginsAreFit : Type 0
 OriginsAreFit =
     (case : Case) (list : List Verdict) → AreRightSteps case list → AreWellFormed case.steps → (origins : List Origin) → AreOrigins (judged_of case list) origins → AreFit origins
+
+-- where memory doesn't lack, the instances that a root needs have one answer
+abbrev pub PullAnswersAreOne : Type 0
+PullAnswersAreOne =
+    (case : Case) (list : List Verdict) → AreRightSteps case list → (root limit : ℕ) (one other : Result (List Instance) PullFault)
+    → IsPullAnswer (judged_of case list) root limit one → IsPullAnswer (judged_of case list) root limit other
+    → one ≢ Err Memory → other ≢ Err Memory → one ≡ other

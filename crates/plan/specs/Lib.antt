@@ -4,3 +4,4 @@ pub mod Maps
 pub mod Origins
 pub mod Plans
 pub mod Thins
+pub mod Trees

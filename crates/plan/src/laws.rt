@@ -1,5 +1,5 @@
 //! Laws of the definitions. The functions' contracts have the laws; the bodies do nothing.
-ghost use Rattle.plan.specs.Laws.{ComposedIsOverLeaf, LeafGivesComposedMap, LeafGivesMap, MapsAreOne, OriginsAreFit, OriginsAreOne, OriginsAreRight, StructuralIsOverLeaf, ThinIsOne};
+ghost use Rattle.plan.specs.Laws.{ComposedIsOverLeaf, LeafGivesComposedMap, LeafGivesMap, MapsAreOne, OriginsAreFit, OriginsAreOne, OriginsAreRight, PullAnswersAreOne, StructuralIsOverLeaf, ThinIsOne};
 
 /// A step has one map at most, an instance one thin tree, and a trace one list of origins.
 pub fn answers_are_one()
@@ -28,4 +28,10 @@ pub fn origins_are_right()
 /// with as many arguments.
 pub fn origins_are_fit()
     ensures { OriginsAreFit }
+{}
+
+/// Where memory doesn't lack, the instances that a root needs have one answer: the list, that it
+/// weighs too much, or the step of the first instance that is too wide.
+pub fn pull_answers_are_one()
+    ensures { PullAnswersAreOne }
 {}

@@ -93,7 +93,7 @@ fn map_above<'m>(given: &Given<'_>, maps: &'m [Option<StepMap>], number: u32) ->
 }
 
 /// The normal form of the map's leaf, which is within the limit.
-fn leaf_form(alloc: Global, given: &Given<'_>, it: &StepMap) -> Result<Nf, NoMemory>
+pub fn leaf_form(alloc: Global, given: &Given<'_>, it: &StepMap) -> Result<Nf, NoMemory>
     requires { HasFitLeaf given.now.steps.now it.now }
     ensures { IfOk result (λ form. IsLeafForm given.now.steps.now it.now form) }
 {

@@ -24,7 +24,8 @@ mod root;
 mod thins;
 
 pub use laws::{
-    answers_are_one, maps_are_over_leaves, origins_are_fit, origins_are_right, pull_answers_are_one,
+    answers_are_one, maps_are_over_leaves, origins_are_fit, origins_are_right, plans_are_one,
+    pull_answers_are_one,
 };
 pub use make_plan::{Start, make_plan};
 pub use maps::{StepMap, map_of_step, maps_of};

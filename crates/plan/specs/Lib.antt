@@ -1,5 +1,8 @@
+pub mod Known
 pub mod Laws
 pub mod Maps
+pub mod OnePlan
 pub mod Origins
 pub mod Plans
 pub mod Thins
+pub mod Trees

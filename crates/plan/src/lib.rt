@@ -12,8 +12,25 @@
 //! list of origins, one thin tree).
 #![tactic(auto)]
 
+mod given;
+mod graph;
 mod laws;
+mod make_plan;
+mod maps;
+mod ordering;
+mod origins;
 mod plan;
+mod root;
+mod thins;
 
-pub use laws::{answers_are_one, origins_are_fit, origins_are_right};
+pub use laws::{
+    answers_are_one, maps_are_over_leaves, origins_are_fit, origins_are_right, plans_are_one,
+    pull_answers_are_one,
+};
+pub use make_plan::{Start, make_plan};
+pub use maps::{StepMap, map_of_step, maps_of};
+pub use origins::origins_of;
+pub use graph::graph_in;
 pub use plan::{Plan, PlanFault};
+pub use root::root_in;
+pub use thins::{Sources, thins_of};

@@ -16,9 +16,10 @@ use Rattle.plan.proofs.Counts.{count, counted, itself, only_one, tick, tick_itse
 use Rattle.plan.proofs.LeafSymbols.{leaf_in_problem, symbol_known}
 use Rattle.plan.proofs.Membership.{Among, among, among_either, among_left, among_right, contained}
 use Rattle.plan.proofs.StepMaps.{map_one, once_in_all, sources_of, unknown_in_all, verdict_of}
-use Rattle.plan.specs.Laws.{OriginsAreRight}
+use Rattle.plan.specs.Laws.{MapsAreSourced, OriginsAreRight}
 use Rattle.plan.specs.Maps.{HasLeaf, IsMapOf, to_form, to_image}
 use Rattle.plan.specs.Origins.{AreDistinct, AreNew, AreOrigins, AreOriginsFrom, AreOriginsOf, AreRight, IsOrigin}
+use Rattle.skolem_order.specs.Meetings.{AreSourced}
 use Rattle.skolem_order.specs.Origins.{origin_for}
 use Rattle.skolem_order.specs.Rooted.{AreRooted, IsRooted}
 use Rattle.skolem_order.specs.declared.origins.Origin.{Origin}
@@ -177,21 +178,33 @@ module _ (case : Case) (list : List Verdict) (are : AreVerdicts case list) (righ
   once_each : (x : SymKey) → count x (symbols_of origins) ≤ 1
   once_each x = subst (λ l. count x l ≤ 1) (sym (names_from (judged_of case list) 0 list origins os)) (once_in_all case list are right acyclic x)
 
-  -- the origin of an entry of a map
-  other_of : (o : Origin) → Among origins o → (one : SkEntry) → Contains o.map.entries one
-      → (other : Origin) × (origin_for origins one.symbol ≡ Some other) × (other.leaf ≡ o.leaf) × (other.sign ≡ o.sign) × (other.ex ≡ one.ex) × Contains other.map.entries one
-  other_of o m one h =
-      let r = from_origin (judged_of case list) 0 list origins os o m in
-      let sources = sources_of case list are right acyclic r.origin.maps in
-      let s = sources.each one (among o.map.entries one h) in
+  -- each entry of a map has its origin, whose map the map has
+  pub sourced : {i : ℕ} {f : Formula} {s : Bool} {m : List SkEntry} → IsMapOf (judged_of case list) i f s m → AreSourced origins f s m
+  sourced {m = m} maps one h =
+      let sources = sources_of case list are right acyclic maps in
+      let s = sources.each one (among m one h) in
       let q = origin_at s.0 s.2.verdict s.2.has one.symbol s.2.puts in
       let same = map_one case list are right acyclic s.2.maps q.2.maps in
       let there : Among q.0.map.entries one = subst (λ l. Among l one) same.entries s.2.there in
       let others = sources_of case list are right acyclic q.2.maps in
       let alike : entry q.0.ex one.symbol q.2.args ≡ one =
       only_one q.0.map.entries (entry q.0.ex one.symbol q.2.args) one others.once (among q.0.map.entries (entry q.0.ex one.symbol q.2.args) q.2.own) there refl in
-      let listed : origin_for origins one.symbol ≡ Some q.0 = subst (λ x. origin_for origins x ≡ Some q.0) q.2.named (origin_found origins once_each q.0 q.1) in
-      (q.0, listed, sym same.formula, sym same.sign, ap (λ (x : SkEntry). x.ex) alike, contained q.0.map.entries one there)
+      record {
+        origin = q.0;
+        listed = subst (λ x. origin_for origins x ≡ Some q.0) q.2.named (origin_found origins once_each q.0 q.1);
+        same_leaf = sym same.formula;
+        same_sign = sym same.sign;
+        number = ap (λ (x : SkEntry). x.ex) alike;
+        own = contained q.0.map.entries one there;
+        gained = λ other c. contained m other (s.3 other (subst (λ l. Among l other) (sym same.entries) (among q.0.map.entries other c)));
+      }
+
+  -- so it is of an origin's map
+  other_of : (o : Origin) → Among origins o → (one : SkEntry) → Contains o.map.entries one
+      → (other : Origin) × (origin_for origins one.symbol ≡ Some other) × (other.leaf ≡ o.leaf) × (other.sign ≡ o.sign) × (other.ex ≡ one.ex) × Contains other.map.entries one
+  other_of o m one h =
+      let t = sourced (from_origin (judged_of case list) 0 list origins os o m).origin.maps one h in
+      (t.origin, t.listed, t.same_leaf, t.same_sign, t.number, t.own)
 
   rooted_one : (o : Origin) → Among origins o → IsRooted origins o
   rooted_one o m =
@@ -239,3 +252,6 @@ module _ (case : Case) (list : List Verdict) (are : AreVerdicts case list) (righ
 
 pub origins_are_right : OriginsAreRight
 origins_are_right case list steps own origins os = right_origins case list steps.are steps.right steps.acyclic own origins os
+
+pub maps_are_sourced : MapsAreSourced
+maps_are_sourced case list steps own origins os i f sign entries maps = sourced case list steps.are steps.right steps.acyclic own origins os maps

@@ -9,7 +9,7 @@ use Rattle.ground_instances.specs.Keys.{Has, image, IsBase, IsLeafVerdict, IsOwn
 use Rattle.normal_form.proofs.NormalFacts.{none_is_vacuous}
 use Rattle.normal_form.specs.Normal.{normal_of}
 use Rattle.normal_form.specs.declared.form.Nf.{Nf}
-use Rattle.plan.proofs.ChainLaws.{comes, count_chained, Renumbers}
+use Rattle.plan.proofs.ChainLaws.{comes, count_chained, gains, Renumbers}
 use Rattle.plan.proofs.Counts.{among_name, count, found, named_among, names}
 use Rattle.plan.proofs.FreshLists.{AreGood, once_all, part_counted, place_one, same_list, unknown_all}
 use Rattle.plan.proofs.Membership.{Among, contained}
@@ -126,9 +126,9 @@ module _ (judged : Judged) where
     pub there : Among entries one
     pub like : Renumbers (entries_of verdict) one
 
-  -- each entry has its source, and no symbol stands twice
+  -- each entry has its source, whose entries all stand here, and no symbol stands twice
   pub record AreSources (f : Formula) (sign : Bool) (entries : List SkEntry) (IsFrom : ℕ → Type 0) : Type 0 where
-    pub each : (one : SkEntry) → Among entries one → (k : ℕ) × IsFrom k × IsSource k f sign one
+    pub each : (one : SkEntry) → Among entries one → (k : ℕ) × IsFrom k × (source : IsSource k f sign one) × ((other : SkEntry) → Among source.entries other → Among entries other)
     pub once : (x : SymKey) → count x (names entries) ≤ 1
 
   pub none_yet : (f : Formula) (sign : Bool) (IsFrom : ℕ → Type 0) → AreSources f sign [] IsFrom
@@ -238,8 +238,8 @@ module _ (case : Case) (list : List Verdict) (are : AreVerdicts case list) (righ
     pub sources_next : AreSources (judged_of case list) f sign (chained m n) IsHereOrAbove
     sources_next = record {
       each = λ e h. elim (comes m n e h) [
-        | inl l ↦ (let s = above.each e l in (s.0, inr s.1, s.2))
-        | inr r ↦ (i, inl refl, source_here e h r)
+        | inl l ↦ (let s = above.each e l in (s.0, inr s.1, s.2, λ x k. gains m n x (s.3 x k)))
+        | inr r ↦ (i, inl refl, source_here e h r, λ x k. k)
       ];
       once = λ x.
           let own : count x (names n) ≤ 1 = subst (λ l. count x l ≤ 1) puts (once_in_step i v x has) in
@@ -284,7 +284,7 @@ module _ (case : Case) (list : List Verdict) (are : AreVerdicts case list) (righ
         entries = chained r.entries m.entries;
         maps = maps;
         sources = record {
-          each = λ e h. let t = s.each e h in (t.0, on_way i q m has one t.0 t.1, t.2);
+          each = λ e h. let t = s.each e h in (t.0, on_way i q m has one t.0 t.1, t.2, t.3);
           once = s.once;
         };
       }
@@ -295,7 +295,7 @@ module _ (case : Case) (list : List Verdict) (are : AreVerdicts case list) (righ
   Anywhere k = Unit {0}
 
   forget : {f : Formula} {sign : Bool} {m : List SkEntry} {IsFrom : ℕ → Type 0} → AreSources (judged_of case list) f sign m IsFrom → AreSources (judged_of case list) f sign m Anywhere
-  forget s = record { each = λ e h. let t = s.each e h in (t.0, tt, t.2); once = s.once }
+  forget s = record { each = λ e h. let t = s.each e h in (t.0, tt, t.2, t.3); once = s.once }
 
   moved : {f g : Formula} {s t : Bool} {m n : List SkEntry} → AreOne f g s t m n → AreSources (judged_of case list) f s m Anywhere → AreSources (judged_of case list) g t n Anywhere
   moved {f} {g} {s} {t} {m} {n} one h =

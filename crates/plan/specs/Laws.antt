@@ -13,6 +13,7 @@ use Rattle.ground_instances.specs.declared.instance.PullFault.TheVariants.{Memor
 use Rattle.plan.specs.Maps.{HasLeaf, IsComposedMap, IsMap, IsMapOf}
 use Rattle.plan.specs.Origins.{AreFit, AreOrigins, AreRight}
 use Rattle.plan.specs.Thins.{IsThin}
+use Rattle.skolem_order.specs.Meetings.{AreSourced}
 use Rattle.skolem_order.specs.declared.origins.Origin.{Origin}
 use Rattle.step_check.specs.Freshness.{AreVerdicts, IsFirstBad}
 use Rattle.step_check.specs.Steps.{Case, step_in}
@@ -94,6 +95,12 @@ abbrev pub OriginsAreRight : Type 0
 OriginsAreRight =
     (case : Case) (list : List Verdict) → AreRightSteps case list → HasItsSymbols case.problem → (origins : List Origin)
     → AreOrigins (judged_of case list) origins → AreRight origins
+
+-- each entry of a step's map has its origin, with the same leaf, whose map the step's map has
+abbrev pub MapsAreSourced : Type 0
+MapsAreSourced =
+    (case : Case) (list : List Verdict) → AreRightSteps case list → HasItsSymbols case.problem → (origins : List Origin) → AreOrigins (judged_of case list) origins
+    → (i : ℕ) (f : Formula) (sign : Bool) (entries : List SkEntry) → IsMapOf (judged_of case list) i f sign entries → AreSourced origins f sign entries
 
 -- each step's formula is well-formed
 abbrev pub AreWellFormed : List Step → Type 0

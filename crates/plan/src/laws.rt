@@ -1,5 +1,5 @@
 //! Laws of the definitions. The functions' contracts have the laws; the bodies do nothing.
-ghost use Rattle.plan.specs.Laws.{ComposedIsOverLeaf, LeafGivesComposedMap, LeafGivesMap, MapsAreOne, OriginsAreFit, OriginsAreOne, OriginsAreRight, PullAnswersAreOne, StructuralIsOverLeaf, ThinIsOne};
+ghost use Rattle.plan.specs.Laws.{ComposedIsOverLeaf, LeafGivesComposedMap, LeafGivesMap, MapsAreOne, MapsAreSourced, OriginsAreFit, OriginsAreOne, OriginsAreRight, PullAnswersAreOne, StructuralIsOverLeaf, ThinIsOne};
 ghost use Rattle.plan.specs.OnePlan.{PlansAreOne};
 
 /// A step has one map at most, an instance one thin tree, and a trace one list of origins.
@@ -20,9 +20,11 @@ pub fn maps_are_over_leaves()
 
 /// The origins are what the order of Skolem terms rests on: each map leads from its leaf's form and
 /// has the symbol's own entry, each of its entries is that of an origin with the same leaf, no two
-/// origins have one symbol, and no leaf has a symbol of the origins.
+/// origins have one symbol, and no leaf has a symbol of the origins. So each entry of a step's map
+/// has its origin, with the same leaf.
 pub fn origins_are_right()
-    ensures { OriginsAreRight }
+    ensures right { OriginsAreRight }
+    ensures sourced { MapsAreSourced }
 {}
 
 /// Where the steps' formulas are well-formed, the symbols in the maps of origins are functions'

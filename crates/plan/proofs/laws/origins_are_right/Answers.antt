@@ -1,5 +1,5 @@
-use Rattle.plan.proofs.OriginLaws.{origins_are_right}
+use Rattle.plan.proofs.OriginLaws.{maps_are_sourced, origins_are_right}
 use Rattle.plan.proofs.laws.origins_are_right.Goals as goal
 
 pub returns : goal.returns
-returns c = origins_are_right
+returns c = record { right = origins_are_right; sourced = maps_are_sourced }

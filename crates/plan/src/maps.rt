@@ -64,11 +64,7 @@ fn is_composed_step(verdicts: &[Verdict], number: u32) -> bool
 }
 
 /// The map of the step's one parent, where that stands on a leaf: to the form that represents it.
-fn map_above<'m>(
-    given: &Given<'_>,
-    maps: &'m [Option<StepMap>],
-    number: u32,
-) -> Option<&'m StepMap>
+fn map_above<'m>(given: &Given<'_>, maps: &'m [Option<StepMap>], number: u32) -> Option<&'m StepMap>
     requires right { IsRightGiven given.now }
     requires parents { AreParentsKnown (judged_given given.now) maps.entry.now number }
     ensures { MatchOption result (NoneAbove (judged_given given.now) number)
@@ -82,7 +78,7 @@ fn map_above<'m>(
 }
 
 /// The normal form of the map's leaf.
-pub fn leaf_form(alloc: Global, given: &Given<'_>, above: &StepMap) -> Result<Nf, NoMemory>
+fn leaf_form(alloc: Global, given: &Given<'_>, above: &StepMap) -> Result<Nf, NoMemory>
     requires { HasFitLeaf given.now.steps.now above.now }
     ensures { IfOk result (λ form. (step : TraceStep)
         → step_in given.now.steps.now above.now.leaf ≡ Some step
@@ -212,11 +208,7 @@ fn no_maps(alloc: Global, count: usize) -> Result<Vec<Option<StepMap>>, NoMemory
 }
 
 /// The maps of all steps, made in that order.
-fn maps_in(
-    alloc: Global,
-    given: &Given<'_>,
-    list: &[u32],
-) -> Result<Vec<Option<StepMap>>, NoMemory>
+fn maps_in(alloc: Global, given: &Given<'_>, list: &[u32]) -> Result<Vec<Option<StepMap>>, NoMemory>
     requires right { IsRightGiven given.now }
     requires order { IsOrderOf given.now.rows.now list.now }
     requires long { length given.now.rows.now ≡ length given.now.steps.now }

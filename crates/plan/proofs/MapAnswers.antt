@@ -1,21 +1,26 @@
 -- The map of a step by that of its parent, and the maps of all steps one after the other.
-use Rattle.std.proofs.Common.{◌≡◌, ◌≢◌, ◌<◌, ◌≤◌, ◌+◌, ◌-◌, ◌⊎◌, ℕ, zero, suc, nat_lt, Bool, true, false, List, [], ◌∷◌, ◌++◌, Contains, get_or, if◌then◌else◌, length, map, Option, Some, None, set, slice_get, take, refl, sym, ap, ◌∙◌, subst, inl, inr, append-nil, append_assoc, arith}
+use Rattle.std.proofs.Common.{◌≡◌, ◌≢◌, ◌<◌, ◌≤◌, ◌+◌, ◌-◌, ◌⊎◌, ℕ, zero, suc, nat_lt, Bool, true, false, List, [], ◌∷◌, ◌++◌, Contains, get_or, if◌then◌else◌, length, map, MatchOption, Option, Some, None, set, slice_get, take, refl, sym, ap, ◌∙◌, subst, inl, inr, append-nil, append_assoc, arith}
 use Rattle.std.proofs.lemmas.Bool.{cases_eq, ltb-false}
-use Rattle.std.proofs.lemmas.List.{get_or-set_other, get_or-set_same, get_or_past, length-set, take_all, take_more}
+use Rattle.std.proofs.lemmas.List.{get_or-set_other, get_or-set_same, get_or_past, length-map, take_all, take_more}
 use Rattle.std.proofs.lemmas.Option.{slice_get-get_or, slice_get_past}
 use Rattle.std.specs.Option.{option_or}
+use Rattle.std.specs.Prelude.{Err, IfOk, Ok, Result}
 use native.Mathlib.Decide.{dec_le}
-use Rattle.derivation_graph.specs.Graphs.{HasParent, IsStep}
+use Rattle.derivation_graph.proofs.GraphLaws.{rows_stand}
+use Rattle.derivation_graph.specs.Graphs.{HasParent, HasStepsForParents, IsGraphAnswer, IsStep, names_of, numbers_of}
 use Rattle.derivation_graph.specs.Orders.{ComeAfter, IsOrderOf, IsReady}
+use Rattle.derivation_graph.specs.declared.graph.Graph.{Graph}
+use Rattle.dk_syntax.specs.declared.Problem.{Problem}
 use Rattle.dk_syntax.specs.declared.formula.Formula.{Formula}
 use Rattle.ground_instances.proofs.StandsLaws.{good, images, judged_of, stands_represents, verdict_at}
 use Rattle.ground_instances.specs.Keys.{Has, image, IsBase, IsLeafVerdict, IsOwnBase, itself, Judged, own, parents_at, sign_of, Stands, through, verdict_in}
+use Rattle.ground_instances.specs.Verdicts.{AreRightVerdicts}
 use Rattle.normal_form.specs.Normal.{nodes_of, normal_of}
 use Rattle.normal_form.specs.declared.form.Nf.{Nf}
 use Rattle.plan.proofs.Existence.{composed_leads, leaf_itself, leaf_through, long_list, map_over, step_of}
 use Rattle.plan.proofs.LeafSymbols.{inference_not}
 use Rattle.plan.proofs.StepMaps.{leaf_own, not_composed, same_verdict}
-use Rattle.plan.specs.Known.{AreKnown, AreParentsKnown, HasFitLeaf, HasNoLeaf, HasOwnMap, is_composed, is_composed_at, IsAbove, IsFormMap, LeadsOn, NoneAbove}
+use Rattle.plan.specs.Known.{AreKnown, AreParentsKnown, HasFitLeaf, HasNoLeaf, HasOwnMap, is_composed, is_composed_at, IsAbove, IsFormMap, IsLeafForm, LeadsOn, NoneAbove}
 use Rattle.plan.specs.Laws.{AreRightSteps}
 use Rattle.plan.specs.Maps.{AreStepMaps, HasLeaf, HasNoMap, IsMap, IsMapAnswer, IsMapOf, IsStepMap, leaf_of, map_at, to_form, to_image}
 use Rattle.plan.specs.declared.maps.StepMap.{StepMap}
@@ -23,13 +28,14 @@ use Rattle.step_check.proofs.OneRepresentative.{one_representative, same_item, s
 use Rattle.step_check.specs.Freshness.{is_bad}
 use Rattle.step_check.specs.Limits.{first_limit, form_limit, limit_at, list_limit, nodes_limit}
 use Rattle.step_check.specs.Representatives.{leaf, Represents}
-use Rattle.step_check.specs.Steps.{Case, own_form, parents_of, step_in}
+use Rattle.step_check.specs.Steps.{Case, node_of, nodes_of as nodes_in, own_form, parents_of, step_in}
 use Rattle.step_check.specs.Verdicts as is
 use Rattle.step_check.specs.Verdicts.{HasVerdict}
 use Rattle.step_check.specs.declared.verdict.Limit.{Limit}
 use Rattle.step_check.specs.declared.verdict.Limit.TheVariants.{NormalForm}
 use Rattle.step_check.specs.declared.verdict.Verdict.{Verdict}
 use Rattle.step_check.specs.declared.verdict.Verdict.TheVariants.{Chained, Clausal, Composes, Conjecture, Leaf, Over, Structural, Wrong}
+use Rattle.step_check.specs.declared.verdict.Verdicts.{Verdicts}
 use Rattle.step_compose.specs.declared.composed.Composed.{Composed}
 use Rattle.step_skolem.proofs.OneImage.{image_is_one}
 use Rattle.step_skolem.proofs.OneMap.{empty_leads_back}
@@ -37,6 +43,7 @@ use Rattle.step_skolem.specs.Images.{IsImage}
 use Rattle.step_skolem.specs.declared.map.SkEntry.{SkEntry}
 use Rattle.step_skolem.specs.declared.map.SkMap.{SkMap}
 use Rattle.tstp_trace.specs.declared.step.Step.{Step}
+use Rattle.tstp_trace.specs.declared.step.Trace.{Trace}
 
 -- ---- steps without a map
 
@@ -66,13 +73,13 @@ composed_at (Some v) h = let r = the_composed v h in (r.0, ap Some r.1)
 module _ (judged : Judged) where
   -- the base is a leaf with that verdict
   base_apart : {i b : ℕ} {w : Verdict} → IsBase judged i b → (v : Verdict) → Has judged i v → IsOwnBase v → (IsLeafVerdict v → ⊥) → Has judged b w → IsLeafVerdict w → ⊥
-  base_apart {w = w} (itself i u k o) v h own none at l = none (subst IsLeafVerdict (sym (same_verdict judged i v w h at)) l)
-  base_apart (through i q b m k one up) v h own none at l = structural_not m v (same_verdict judged i v (Structural m) h k) own
+  base_apart {w = w} (itself i u k o) v h apart none at l = none (subst IsLeafVerdict (sym (same_verdict judged i v w h at)) l)
+  base_apart (through i q b m k one up) v h apart none at l = structural_not m v (same_verdict judged i v (Structural m) h k) apart
 
   -- a step that is neither a leaf nor structural nor composed
   pub no_map : (i : ℕ) (v : Verdict) → Has judged i v → IsOwnBase v → (IsLeafVerdict v → ⊥) → is_composed v ≡ false → HasNoMap judged i
-  no_map i v h own none apart f sign entries (to_form a) = base_apart a.leaf.from v h own none a.leaf.here a.leaf.leaf
-  no_map i v h own none apart f sign entries (to_image a) = composed_not a.composed v (same_verdict judged i v (Composes a.composed) h a.here) apart
+  no_map i v h based none apart f sign entries (to_form a) = base_apart a.leaf.from v h based none a.leaf.here a.leaf.leaf
+  no_map i v h based none apart f sign entries (to_image a) = composed_not a.composed v (same_verdict judged i v (Composes a.composed) h a.here) apart
 
   verdict_of_base : {i b : ℕ} → IsBase judged i b → verdict_in judged.verdicts i ≡ None → ⊥
   verdict_of_base (itself i v h o) none = some_or_none (verdict_in judged.verdicts i) v h none
@@ -107,20 +114,24 @@ module _ (judged : Judged) where
   pub parent_has : (i q : ℕ) → parents_at judged i ≡ q ∷ [] → HasParent judged.rows i q
   parent_has i q one = subst (λ l. Contains l q) (sym one) (0, omega arith, refl)
 
-  -- the parent is composed, so it has no leaf for a base
-  pub composed_above : (i q : ℕ) → parents_at judged i ≡ q ∷ [] → is_composed_at (verdict_in judged.verdicts q) ≡ true → NoneAbove judged i
-  composed_above i q one h p two f sign l =
-      let c = composed_at (verdict_in judged.verdicts q) h in
-      not_composed judged c.0 c.1 (subst (λ x. HasLeaf judged x f sign) (same_item (parents_at judged i) p q two one) l)
+  -- a composed step has no leaf for a base
+  pub composed_no_leaf : (q : ℕ) → is_composed_at (verdict_in judged.verdicts q) ≡ true → HasNoLeaf judged q
+  composed_no_leaf q h f sign l = let c = composed_at (verdict_in judged.verdicts q) h in not_composed judged c.0 c.1 l
 
   form_map : (q : ℕ) (it : StepMap) (step : Step) → step_in judged.steps it.leaf ≡ Some step → is_composed_at (verdict_in judged.verdicts q) ≡ false → (maps : IsMapOf judged q step.formula it.sign it.map.entries)
       → leaf_of judged maps ≡ it.leaf → IsFormMap judged q it
   form_map q it step stands h (to_form a) based = record { step = step; stands = stands; maps = a; based = based }
   form_map q it step stands h (to_image a) based = let both : true ≡ false = ap is_composed_at (sym a.here) ∙ h in absurd cc
 
-  -- the parent's map leads to the form that represents it
-  pub map_over_parent : (i q : ℕ) (it : StepMap) → parents_at judged i ≡ q ∷ [] → is_composed_at (verdict_in judged.verdicts q) ≡ false → IsStepMap judged q it → IsAbove judged i it
-  map_over_parent i q it one h known = record { parent = q; one = one; map = form_map q it known.step known.stands h known.maps known.based }
+  -- the step's map, where the step isn't composed
+  form_known : (q : ℕ) (it : StepMap) → is_composed_at (verdict_in judged.verdicts q) ≡ false → IsStepMap judged q it → IsFormMap judged q it
+  form_known q it h known = form_map q it known.step known.stands h known.maps known.based
+
+  -- what holds of the parent's map, of the step
+  pub above_answer : {B : Type 0} (r : Option B) (value : B → StepMap) (i q : ℕ) → parents_at judged i ≡ q ∷ [] → MatchOption r (HasNoLeaf judged q) (λ it. IsFormMap judged q (value it))
+      → MatchOption r (NoneAbove judged i) (λ it. IsAbove judged i (value it))
+  above_answer None value i q one h = λ p two f sign l. h f sign (subst (λ x. HasLeaf judged x f sign) (same_item (parents_at judged i) p q two one) l)
+  above_answer (Some it) value i q one h = record { parent = q; one = one; map = h }
 
 -- ---- limits
 
@@ -164,6 +175,28 @@ first_empty steps first next e step middle last at h k =
     let form = normal_of step.formula first.sign in
     subst (λ x. IsImage x next last) (two_images form middle form [] (subst (λ l. IsImage form l middle) e h) (empty_leads_back form)) k
 
+-- where both maps have entries, one after the other
+pub both_lead : (steps : List Step) (first : StepMap) (next both : List SkEntry) (form : Nf) → IsLeafForm steps first form
+    → ((middle last : Nf) → IsImage form first.map.entries middle → IsImage middle next last → IsImage form both last) → LeadsOn steps first next both
+both_lead steps first next both form is on step middle last at h k =
+    let e = is step at in
+    subst (λ x. IsImage x both last) e (on middle last (subst (λ x. IsImage x first.map.entries middle) (sym e) h) k)
+
+pub chained_leads : {E : Type 0} (r : Result SkMap E) (steps : List Step) (first : StepMap) (next : List SkEntry) (form : Nf) → IsLeafForm steps first form
+    → ((middle last : Nf) → IsImage form first.map.entries middle → IsImage middle next last → IfOk r (λ both. IsImage form both.entries last)) → IfOk r (λ both. LeadsOn steps first next both.entries)
+chained_leads (Ok both) steps first next form is on = both_lead steps first next both.entries form is on
+chained_leads (Err e) steps first next form is on = tt
+
+-- the leaf stands there
+pub fit_stands : (steps : List Step) (it : StepMap) → HasFitLeaf steps it → step_in steps it.leaf ≡ None → ⊥
+fit_stands steps it fit none = some_or_none (step_in steps it.leaf) fit.0 fit.1 none
+
+pub fit_nodes : (steps : List Step) (it : StepMap) (step : Step) → HasFitLeaf steps it → step_in steps it.leaf ≡ Some step → nodes_of (normal_of step.formula it.sign) ≤ 100000
+fit_nodes steps it step fit at = subst (λ (x : Step). nodes_of (normal_of x.formula it.sign) ≤ 100000) (same_some (step_in steps it.leaf) fit.0 step fit.1 at) fit.2
+
+pub leaf_form_is : (steps : List Step) (it : StepMap) (step : Step) (form : Nf) → step_in steps it.leaf ≡ Some step → form ≡ normal_of step.formula it.sign → IsLeafForm steps it form
+leaf_form_is steps it step form at e other there = e ∙ ap (λ (x : Step). normal_of x.formula it.sign) (same_some (step_in steps it.leaf) step other at there)
+
 module _ (case : Case) (list : List Verdict) (s : AreRightSteps case list) where
   -- the leaf's form is within the limit
   fit_leaf : {i : ℕ} {f : Formula} {sign : Bool} → HasLeaf (judged_of case list) i f sign → nodes_of (normal_of f sign) ≤ 100000
@@ -195,11 +228,15 @@ module _ (case : Case) (list : List Verdict) (s : AreRightSteps case list) where
         based = refl;
       })
 
-  -- no leaf is above where the parent has no map
-  pub none_known : (i q : ℕ) → parents_at (judged_of case list) i ≡ q ∷ [] → HasNoMap (judged_of case list) q → NoneAbove (judged_of case list) i
-  none_known i q one none p two f sign l =
-      let at = subst (λ x. HasLeaf (judged_of case list) x f sign) (same_item (parents_at (judged_of case list) i) p q two one) l in
-      let m = map_over case list s at in none f sign m.0 (to_form m.1)
+  -- a step without a map has no leaf for a base
+  no_leaf : (q : ℕ) → HasNoMap (judged_of case list) q → HasNoLeaf (judged_of case list) q
+  no_leaf q none f sign l = let m = map_over case list s l in none f sign m.0 (to_form m.1)
+
+  -- what is found of a step that isn't composed
+  pub form_answer : {B : Type 0} (r : Option B) (value : B → StepMap) (maps : List (Option StepMap)) (q : ℕ) → is_composed_at (verdict_in list q) ≡ false → IsMapAnswer (judged_of case list) q (map_at maps q)
+      → MatchOption r (map_at maps q ≡ None) (λ it. map_at maps q ≡ Some (value it)) → MatchOption r (HasNoLeaf (judged_of case list) q) (λ it. IsFormMap (judged_of case list) q (value it))
+  form_answer None value maps q h known e = no_leaf q (subst (IsMapAnswer (judged_of case list) q) e known)
+  form_answer (Some it) value maps q h known e = form_known (judged_of case list) q (value it) h (subst (IsMapAnswer (judged_of case list) q) e known)
 
   -- the map of the parent and then the step's own
   pub map_with_own : (i : ℕ) (own_map : SkMap) (first : StepMap) (both : SkMap) → HasOwnMap (judged_of case list) i own_map → IsAbove (judged_of case list) i first
@@ -322,3 +359,31 @@ module _ (case : Case) (list : List Verdict) (s : AreRightSteps case list) where
         | yes below ↦ listed (suc place) (ordered.1 (suc place) (omega arith, below))
         | no past ↦ outside (suc place) (no_verdict_past list (suc place) (omega (arith, past, rows, long_list case list s))) (none_past maps (suc place) (omega (arith, past, rows, long)))
       ]
+
+-- ---- what is given
+
+abbrev pub judged_lists : List Step → List (List ℕ) → List Verdict → Judged
+judged_lists steps rows list = record { steps = steps; rows = rows; verdicts = list }
+
+abbrev pub case_lists : Problem → List Step → List (List ℕ) → Case
+case_lists problem steps rows = record { problem = problem; steps = steps; rows = rows }
+
+module _ (steps steps' : List Step) (rows rows' : List (List ℕ)) (list list' : List Verdict) (a : steps ≡ steps') (b : rows ≡ rows') (d : list ≡ list') where
+  pub same_judged : judged_lists steps rows list ≡ judged_lists steps' rows' list'
+  same_judged = λ i. record { steps = a i; rows = b i; verdicts = d i }
+
+  pub same_right : (problem : Problem) → AreRightSteps (case_lists problem steps rows) list → AreRightSteps (case_lists problem steps' rows') list'
+  same_right problem h =
+      subst (λ x. AreRightSteps (case_lists problem steps' rows') x) d
+      (subst (λ x. AreRightSteps (case_lists problem steps' x) list) b (subst (λ x. AreRightSteps (case_lists problem x rows) list) a h))
+
+-- the verdicts of a trace with its graph
+pub right_steps : (trace : Trace) (graph : Graph) (verdicts : Verdicts) (right : AreRightVerdicts trace graph verdicts) → IsGraphAnswer (nodes_in trace) (Ok graph)
+    → AreRightSteps (case_lists right.0 trace.steps graph.parents) verdicts.list
+right_steps trace graph verdicts right h = record { are = right.1; right = right.2; acyclic = h.1 }
+
+pub graph_stands : (trace : Trace) (graph : Graph) → IsGraphAnswer (nodes_in trace) (Ok graph) → HasStepsForParents graph.parents
+graph_stands trace graph h = subst HasStepsForParents (sym h.0.1) (rows_stand (nodes_in trace) h.0.0)
+
+pub graph_long : (trace : Trace) (graph : Graph) → IsGraphAnswer (nodes_in trace) (Ok graph) → length graph.parents ≡ length trace.steps
+graph_long trace graph h = ap length h.0.1 ∙ length-map (nodes_in trace) (numbers_of (names_of (nodes_in trace))) ∙ length-map trace.steps node_of

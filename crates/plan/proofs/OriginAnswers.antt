@@ -1,8 +1,8 @@
 -- The origins of symbols by the maps of the steps.
-use Rattle.std.proofs.Common.{◌≡◌, ◌<◌, ◌≤◌, ◌+◌, ℕ, zero, suc, Bool, true, false, List, [], ◌∷◌, ◌++◌, Contains, cond, get_or, length, map, Option, Some, None, slice_get, take, refl, sym, ap, ◌∙◌, subst, inl, inr, append-nil, append_assoc, arith}
+use Rattle.std.proofs.Common.{◌≡◌, ◌<◌, ◌≤◌, ◌+◌, ℕ, zero, suc, Bool, true, false, List, [], ◌∷◌, ◌++◌, Contains, cond, drop, drop-cons, get_or, length, map, Option, Some, None, slice_get, take, refl, sym, ap, ◌∙◌, subst, inl, inr, append-nil, append_assoc, arith}
 use Rattle.std.proofs.lemmas.List.{length-take-le}
-use Rattle.std.proofs.lemmas.List.{map-append, take_more}
-use Rattle.std.proofs.lemmas.Option.{same_Some}
+use Rattle.std.proofs.lemmas.List.{map-append, take_all, take_more}
+use Rattle.std.proofs.lemmas.Option.{same_Some, slice_get-get_or}
 use Rattle.std.specs.List.{AllZip}
 use Rattle.std.specs.Prelude.{IsSome}
 use Rattle.dk_syntax.proofs.SymbolLaws.{symbols_same}
@@ -16,7 +16,7 @@ use Rattle.plan.proofs.ChainLaws.{count_chained}
 use Rattle.plan.proofs.Existence.{chained_form, chained_image, map_over}
 use Rattle.plan.proofs.Membership.{Among, contained}
 use Rattle.plan.proofs.StepMaps.{map_one, not_composed, same_verdict}
-use Rattle.plan.specs.Known.{AreNamed, AreOriginsBy, first_named, HasFirst, IsOriginBy}
+use Rattle.plan.specs.Known.{AreIntroduced, AreNamed, AreOriginsBy, first_named, HasFirst, IsOriginBy}
 use Rattle.plan.specs.Laws.{AreRightSteps}
 use Rattle.plan.specs.Maps.{HasLeaf, IsMapOf, to_form, to_image}
 use Rattle.plan.specs.Origins.{AreOriginsFrom, AreOriginsOf, IsOrigin}
@@ -57,7 +57,7 @@ named_first [] x h = absurd h
 named_first (one ∷ entries) x h = by_test (same_symbol one.symbol x) refl h (λ k. named_first entries x k)
   where
     by_test : (b : Bool) → same_symbol one.symbol x ≡ b → Among (names (one ∷ entries)) x → (Among (names entries) x → HasFirst entries x) → IsSome (cond b (Some one) (first_named entries x))
-    by_test true t k more = tt
+    by_test true t k more = refl
     by_test false t (inl e) more = let both : false ≡ true = sym t ∙ subst (λ y. same_symbol one.symbol y ≡ true) e (symbol_itself one.symbol) in absurd cc
     by_test false t (inr k) more = more k
 
@@ -68,6 +68,30 @@ name_at (one ∷ own) (suc k) d h = inr (name_at own k d (omega (arith, h)))
 
 pub all_named : (entries own : List SkEntry) → ((x : SymKey) → Among (names own) x → Among (names entries) x) → AreNamed entries own
 all_named entries own h k d below = named_first entries (get_or own k d).symbol (h (get_or own k d).symbol (name_at own k d below))
+
+pub no_first : (entries slice : List SkEntry) (x : SymKey) → slice ≡ entries → HasFirst entries x → first_named slice x ≡ None → ⊥
+no_first entries slice x e h none = let both : false ≡ true = subst IsSome none (subst (λ l. HasFirst l x) (sym e) h) in cc
+
+told_same : (a b : SymKey) → a ≡ b → same_symbol a b ≡ true
+told_same a b e = subst (λ y. same_symbol a y ≡ true) e (symbol_itself a)
+
+told_apart : (a b : SymKey) → (a ≡ b → ⊥) → same_symbol a b ≡ false
+told_apart a b apart = by_test (same_symbol a b) refl
+  where
+    by_test : (t : Bool) → same_symbol a b ≡ t → same_symbol a b ≡ false
+    by_test true e = absurd (apart (symbols_same a b e))
+    by_test false e = e
+
+-- the first entry from a place on
+pub first_here : (entries : List SkEntry) (i : ℕ) (one : SkEntry) (x : SymKey) → i < length entries → one ≡ get_or entries i one → one.symbol ≡ x → first_named (drop i entries) x ≡ Some one
+first_here entries i one x below is same =
+    ap (λ l. first_named l x) (drop-cons entries i one below ∙ ap (λ y. y ∷ drop (suc i) entries) (sym is)) ∙ ap (λ b. cond b (Some one) (first_named (drop (suc i) entries) x)) (told_same one.symbol x same)
+
+pub first_later : (entries : List SkEntry) (i : ℕ) (one : SkEntry) (x : SymKey) → i < length entries → one ≡ get_or entries i one → (one.symbol ≡ x → ⊥) → first_named (drop (i + 1) entries) x ≡ first_named (drop i entries) x
+first_later entries i one x below is apart =
+    let number : i + 1 ≡ suc i = omega arith in
+    ap (λ n. first_named (drop n entries) x) number
+    ∙ sym (ap (λ l. first_named l x) (drop-cons entries i one below ∙ ap (λ y. y ∷ drop (suc i) entries) (sym is)) ∙ ap (λ b. cond b (Some one) (first_named (drop (suc i) entries) x)) (told_apart one.symbol x apart))
 
 -- ---- lists of origins
 
@@ -111,12 +135,21 @@ module _ (judged : Judged) where
   from_more before (w ∷ vs) v number origins here is (first, later, e, a, b) k =
       (first, later ++ here, ap (λ l. l ++ here) e ∙ append_assoc first later here, a, from_more (suc before) vs v number later here (omega (arith, is)) b k)
 
-  pub origins_next : (vs : List Verdict) (k : ℕ) (v : Verdict) (origins here : List Origin) → k < length vs → v ≡ get_or vs k v → AreOriginsFrom judged 0 (take k vs) origins
-      → AreOriginsOf judged (k + 1) (introduced v) here → AreOriginsFrom judged 0 (take (k + 1) vs) (origins ++ here)
-  origins_next vs k v origins here below is h new =
-      let more : take (k + 1) vs ≡ take k vs ++ v ∷ [] = take_more vs k v below ∙ ap (λ x. take k vs ++ x ∷ []) (sym is) in
+  next_verdict : (k : ℕ) (d : Verdict) → k < length judged.verdicts → Has judged (k + 1) (get_or judged.verdicts k d)
+  next_verdict k d below =
+      let number : k + 1 ≡ suc k = omega arith in subst (λ n. Has judged n (get_or judged.verdicts k d)) (sym number) (slice_get-get_or judged.verdicts k d below)
+
+  pub origins_next : (k : ℕ) (origins here : List Origin) → k < length judged.verdicts → AreOriginsFrom judged 0 (take k judged.verdicts) origins → AreIntroduced judged (k + 1) here
+      → AreOriginsFrom judged 0 (take (k + 1) judged.verdicts) (origins ++ here)
+  origins_next k origins here below h new =
+      let vs = judged.verdicts in
+      let v = get_or vs k Leaf in
       let number : k + 1 ≡ 0 + suc (length (take k vs)) = omega (arith, length-take-le k vs (omega (arith, below))) in
-      subst (λ l. AreOriginsFrom judged 0 l (origins ++ here)) (sym more) (from_more 0 (take k vs) v (k + 1) origins here number h new)
+      subst (λ l. AreOriginsFrom judged 0 l (origins ++ here)) (sym (take_more vs k Leaf below))
+      (from_more 0 (take k vs) v (k + 1) origins here number h (new v (next_verdict k Leaf below)))
+
+  pub all_origins_are : (k : ℕ) (origins : List Origin) → length judged.verdicts ≤ k → AreOriginsFrom judged 0 (take k judged.verdicts) origins → AreOriginsFrom judged 0 judged.verdicts origins
+  all_origins_are k origins past h = subst (λ l. AreOriginsFrom judged 0 l origins) (take_all k judged.verdicts past) h
 
 -- ---- what a step introduces stands in its map
 
@@ -132,7 +165,7 @@ module _ (case : Case) (list : List Verdict) (s : AreRightSteps case list) where
 
   by_base : {i b : ℕ} → IsBase (judged_of case list) i b → (m : SkMap) → Has (judged_of case list) i (Structural m) → (v : Verdict) → Has (judged_of case list) b v → IsLeafVerdict v → (step : Step) → step_in case.steps b ≡ Some step
       → ParentLeaf i step.formula (sign_of v)
-  by_base {i} (itself i u k o) m h v at l step stands = absurd (own_apart m u (same_verdict (judged_of case list) i u (Structural m) k h) o)
+  by_base (itself i u k o) m h v at l step stands = absurd (own_apart m u (same_verdict (judged_of case list) i u (Structural m) k h) o)
   by_base (through i q b n k one up) m h v at l step stands = record {
     parent = q;
     one = one;

@@ -13,7 +13,7 @@ use Rattle.plan.proofs.ChainLaws.{comes, count_chained, Renumbers}
 use Rattle.plan.proofs.Counts.{among_name, count, found, named_among, names}
 use Rattle.plan.proofs.FreshLists.{AreGood, once_all, part_counted, place_one, same_list, unknown_all}
 use Rattle.plan.proofs.Membership.{Among, contained}
-use Rattle.plan.specs.Maps.{HasLeaf, IsComposedMap, IsMap, IsMapOf, to_form, to_image}
+use Rattle.plan.specs.Maps.{HasLeaf, IsComposedMap, IsMap, IsMapOf, leaf_of, to_form, to_image}
 use Rattle.step_check.proofs.OneRepresentative.{one_representative, same_item, same_some}
 use Rattle.step_check.specs.Freshness.{AreVerdicts, freshened, introduced, introduced_by, is_bad, IsFirstBad}
 use Rattle.step_check.specs.Steps.{Case, stands_in, step_in}
@@ -90,6 +90,15 @@ module _ (judged : Judged) where
       by_base : {i b : ℕ} {v : Verdict} → IsBase judged i b → Has judged i (Composes c) → Has judged b v → IsLeafVerdict v → ⊥
       by_base {v = v} (itself i w k o) h at l = composed_not c v (same_verdict i (Composes c) v h at) l
       by_base (through i q b m k one up) h at l = composed_structural c m (same_verdict i (Composes c) (Structural m) h k)
+
+  -- and one leaf at one place
+  pub leaf_place_one : {i : ℕ} {f g : Formula} {s t : Bool} {m n : List SkEntry} (a : IsMapOf judged i f s m) (b : IsMapOf judged i g t n) → leaf_of judged a ≡ leaf_of judged b
+  leaf_place_one (to_form a) (to_form b) = base_one a.leaf.from b.leaf.from
+  leaf_place_one (to_form a) (to_image b) = absurd (not_composed b.composed b.here a.leaf)
+  leaf_place_one (to_image a) (to_form b) = absurd (not_composed a.composed a.here b.leaf)
+  leaf_place_one {i} (to_image a) (to_image b) =
+      let at : a.parent ≡ b.parent = same_item (parents_at judged i) a.parent b.parent a.one b.one in
+      base_one (subst (λ x. IsBase judged x a.leaf.base) at a.leaf.from) b.leaf.from
 
   -- ---- the way to the base
 

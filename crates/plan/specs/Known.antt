@@ -11,9 +11,11 @@ use Rattle.normal_form.specs.Normal.{nodes_of, normal_of}
 use Rattle.normal_form.specs.declared.form.Nf.{Nf}
 use Rattle.plan.specs.Laws.{AreRightSteps}
 use Rattle.plan.specs.Maps.{HasLeaf, IsMap, IsMapAnswer, map_at}
+use Rattle.plan.specs.Origins.{AreOriginsOf}
 use Rattle.plan.specs.declared.given.Given.{Given}
 use Rattle.plan.specs.declared.maps.StepMap.{StepMap}
 use Rattle.skolem_order.specs.declared.origins.Origin.{Origin}
+use Rattle.step_check.specs.Freshness.{introduced}
 use Rattle.step_check.specs.Steps.{Case, step_in}
 use Rattle.step_check.specs.declared.verdict.Verdict.{Verdict}
 use Rattle.step_check.specs.declared.verdict.Verdict.TheVariants.{Chained, Clausal, Composes, Conjecture, Leaf, Over, Structural, Wrong}
@@ -93,6 +95,10 @@ module _ (judged : Judged) where
 abbrev pub HasFitLeaf : List Step → StepMap → Type 0
 HasFitLeaf steps it = (step : Step) × (step_in steps it.leaf ≡ Some step) × (nodes_of (normal_of step.formula it.sign) ≤ 100000)
 
+-- it is the leaf's form
+abbrev pub IsLeafForm : List Step → StepMap → Nf → Type 0
+IsLeafForm steps it form = (step : Step) → step_in steps it.leaf ≡ Some step → form ≡ normal_of step.formula it.sign
+
 -- these entries lead from the leaf's form to where the next map leads after the first
 abbrev pub LeadsOn : List Step → StepMap → List SkEntry → List SkEntry → Type 0
 LeadsOn steps first next both =
@@ -125,3 +131,7 @@ pub record IsOriginBy (leaf : Formula) (it : StepMap) (symbol : SymKey) (origin 
 -- the origins of symbols, in order
 abbrev pub AreOriginsBy : Formula → StepMap → List SymKey → List Origin → Type 0
 AreOriginsBy leaf it = AllZip (IsOriginBy leaf it)
+
+-- the origins are those of the symbols that the step introduces
+abbrev pub AreIntroduced : Judged → ℕ → List Origin → Type 0
+AreIntroduced judged i here = (verdict : Verdict) → Has judged i verdict → AreOriginsOf judged i (introduced verdict) here

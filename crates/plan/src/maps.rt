@@ -3,16 +3,14 @@
 //! The steps are taken in an order in which each comes after its parents, and the map of each is made
 //! once, from that of its parent. A step's map is a copy of its parent's, or its own, where the other
 //! one is empty. Where both have entries, the leaf's normal form is built again.
-ghost use Rattle.std.specs.Prelude.{◌≡◌, None, Some, Ok, IfOk, OnOk, MatchOption, length};
+ghost use Rattle.std.specs.Prelude.{◌≡◌, [], None, Some, Ok, IfOk, OnOk, MatchOption, length};
 ghost use Rattle.derivation_graph.specs.Graphs.{IsGraphAnswer, IsStep};
 ghost use Rattle.derivation_graph.specs.Orders.{IsOrderOf};
 ghost use Rattle.ground_instances.specs.Keys.{Has, judged_by, verdict_in};
 ghost use Rattle.ground_instances.specs.Verdicts.{AreRightVerdicts};
-ghost use Rattle.normal_form.specs.Normal.{normal_of};
-ghost use Rattle.plan.specs.Known.{AreParentsKnown, HasFitLeaf, HasOwnMap, IsAbove, IsRightGiven, LeadsOn, NoneAbove, is_composed, is_composed_at, judged_given};
+ghost use Rattle.plan.specs.Known.{AreParentsKnown, HasFitLeaf, HasNoLeaf, HasOwnMap, IsAbove, IsFormMap, IsLeafForm, IsRightGiven, LeadsOn, NoneAbove, is_composed, is_composed_at, judged_given};
 ghost use Rattle.plan.specs.Maps.{AreStepMaps, IsMapAnswer, map_at};
-ghost use Rattle.step_check.specs.Steps.{nodes_of, step_in};
-ghost use Rattle.tstp_trace.specs.declared.step.Step.{Step as TraceStep};
+ghost use Rattle.step_check.specs.Steps.{nodes_of as nodes_in};
 
 use crate::given::{Given, only_parent, step_at, verdict_at};
 use derivation_graph::{Graph, order};
@@ -63,31 +61,46 @@ fn is_composed_step(verdicts: &[Verdict], number: u32) -> bool
     }
 }
 
+/// The map of the step of that number, where it leads to the form that represents the step.
+fn map_to_form<'m>(
+    given: &Given<'_>,
+    maps: &'m [Option<StepMap>],
+    number: u32,
+) -> Option<&'m StepMap>
+    requires right { IsRightGiven given.now }
+    requires known { IsMapAnswer (judged_given given.now) number (map_at maps.now number) }
+    ensures { MatchOption result (HasNoLeaf (judged_given given.now) number)
+        (λ it. IsFormMap (judged_given given.now) number it.now) }
+{
+    if is_composed_step(given.verdicts, number) {
+        None
+    } else {
+        map_of_step(maps, number)
+    }
+}
+
 /// The map of the step's one parent, where that stands on a leaf: to the form that represents it.
 fn map_above<'m>(given: &Given<'_>, maps: &'m [Option<StepMap>], number: u32) -> Option<&'m StepMap>
     requires right { IsRightGiven given.now }
-    requires parents { AreParentsKnown (judged_given given.now) maps.entry.now number }
+    requires parents { AreParentsKnown (judged_given given.now) maps.now number }
     ensures { MatchOption result (NoneAbove (judged_given given.now) number)
         (λ it. IsAbove (judged_given given.now) number it.now) }
 {
     match only_parent(given.rows, number) {
         None => None,
-        Some(parent) if is_composed_step(given.verdicts, parent) => None,
-        Some(parent) => map_of_step(maps, parent),
+        Some(parent) => map_to_form(given, maps, parent),
     }
 }
 
-/// The normal form of the map's leaf.
-fn leaf_form(alloc: Global, given: &Given<'_>, above: &StepMap) -> Result<Nf, NoMemory>
-    requires { HasFitLeaf given.now.steps.now above.now }
-    ensures { IfOk result (λ form. (step : TraceStep)
-        → step_in given.now.steps.now above.now.leaf ≡ Some step
-        → form ≡ normal_of step.formula above.now.sign) }
+/// The normal form of the map's leaf, which is within the limit.
+pub fn leaf_form(alloc: Global, given: &Given<'_>, it: &StepMap) -> Result<Nf, NoMemory>
+    requires { HasFitLeaf given.now.steps.now it.now }
+    ensures { IfOk result (λ form. IsLeafForm given.now.steps.now it.now form) }
 {
-    let Some(step) = step_at(given.steps, above.leaf) else {
+    let Some(step) = step_at(given.steps, it.leaf) else {
         unreachable!()
     };
-    match normal(alloc, above.sign, &step.formula) {
+    match normal(alloc, it.sign, &step.formula) {
         Ok(form) => Ok(form),
         Err(NfFault::TooLarge { nodes: _ }) => unreachable!(),
         Err(NfFault::Memory) => Err(NoMemory),
@@ -217,7 +230,8 @@ fn maps_in(alloc: Global, given: &Given<'_>, list: &[u32]) -> Result<Vec<Option<
     let mut maps = no_maps(alloc, given.steps.len())?;
     for number in list {
         let map = map_here(alloc, given, maps.as_slice(), *number)?;
-        maps[*number as usize - 1] = map;
+        let place = *number as usize - 1;
+        maps[place] = map;
     }
     Ok(maps)
 }
@@ -230,15 +244,18 @@ pub fn maps_of(
     graph: &Graph,
     verdicts: &Verdicts,
 ) -> Result<Seq<Option<StepMap>>, NoMemory>
-    requires graph { IsGraphAnswer (nodes_of trace.now) (Ok graph.now) }
+    requires graph { IsGraphAnswer (nodes_in trace.now) (Ok graph.now) }
     requires right { AreRightVerdicts trace.now graph.now verdicts.now }
     ensures { IfOk result (λ maps. AreStepMaps (judged_by trace.now graph.now verdicts.now) maps) }
 {
     let list = order(alloc, graph)?;
+    let steps = trace.steps.as_slice();
+    let rows = graph.parents.as_slice();
+    let verdicts = verdicts.list.as_slice();
     let given = Given {
-        steps: trace.steps.as_slice(),
-        rows: graph.parents.as_slice(),
-        verdicts: verdicts.list.as_slice(),
+        steps,
+        rows,
+        verdicts,
     };
     let maps = maps_in(alloc, &given, list.as_slice())?;
     Ok(Seq::from_vec(maps))

@@ -1,16 +1,16 @@
 //! The origins of the symbols that the steps introduce.
-ghost use Rattle.std.specs.Prelude.{◌≡◌, ◌≤◌, ℕ, None, Some, Ok, Contains, IfOk, OnOk, map};
+ghost use Rattle.std.specs.Prelude.{◌≡◌, Ok, IfOk, map};
 ghost use Rattle.std.specs.Option.{option_copied};
 ghost use Rattle.ground_instances.specs.Keys.{Has, judged_by};
 ghost use Rattle.ground_instances.specs.Verdicts.{AreRightVerdicts};
 ghost use Rattle.derivation_graph.specs.Graphs.{IsGraphAnswer};
-ghost use Rattle.plan.specs.Known.{AreNamed, AreOriginsBy, HasFirst, IsOriginBy, IsRightGiven, first_named, judged_given};
-ghost use Rattle.plan.specs.Maps.{AreStepMaps};
+ghost use Rattle.plan.specs.Known.{AreIntroduced, AreNamed, AreOriginsBy, HasFirst, IsOriginBy, IsRightGiven, first_named, judged_given};
+ghost use Rattle.plan.specs.Maps.{AreStepMaps, IsStepMap};
 ghost use Rattle.plan.specs.Origins.{AreOrigins, AreOriginsOf};
 ghost use Rattle.step_check.specs.Freshness.{introduced};
-ghost use Rattle.step_check.specs.Steps.{nodes_of, step_in};
+ghost use Rattle.step_check.specs.Steps.{nodes_of};
 
-use crate::given::{Given, step_at};
+use crate::given::{Given, step_at, verdict_at};
 use crate::maps::{StepMap, map_of_step};
 use derivation_graph::Graph;
 use dk_syntax::{Formula, NoMemory, Seq, SymKey};
@@ -60,13 +60,18 @@ fn origin_by(
 {
     match first_entry(it.map.entries.as_slice(), symbol) {
         None => unreachable!(),
-        Some(one) => Ok(Origin {
-            symbol: symbol.copy(alloc)?,
-            leaf: leaf.copy(alloc)?,
-            sign: it.sign,
-            ex: one.ex,
-            map: it.map.copy(alloc)?,
-        }),
+        Some(one) => {
+            let name = symbol.copy(alloc)?;
+            let formula = leaf.copy(alloc)?;
+            let map = it.map.copy(alloc)?;
+            Ok(Origin {
+                symbol: name,
+                leaf: formula,
+                sign: it.sign,
+                ex: one.ex,
+                map,
+            })
+        }
     }
 }
 
@@ -89,6 +94,27 @@ fn origins_by(
     Ok(here)
 }
 
+/// The origins of the symbols that a step with that map introduces.
+fn origins_with(
+    alloc: Global,
+    given: &Given<'_>,
+    number: u32,
+    it: &StepMap,
+    verdict: &Verdict,
+) -> Result<Vec<Origin>, NoMemory>
+    requires right { IsRightGiven given.now }
+    requires map { IsStepMap (judged_given given.now) number it.now }
+    requires here { Has (judged_given given.now) number verdict.now }
+    ensures { IfOk result (λ here. AreOriginsOf (judged_given given.now) number
+        (introduced verdict.now) here.items) }
+{
+    let own = own_entries(verdict);
+    match step_at(given.steps, it.leaf) {
+        None => unreachable!(),
+        Some(leaf) => origins_by(alloc, &leaf.formula, it, own),
+    }
+}
+
 /// The origins of the symbols that a step introduces.
 fn origins_here(
     alloc: Global,
@@ -103,39 +129,27 @@ fn origins_here(
     ensures { IfOk result (λ here. AreOriginsOf (judged_given given.now) number
         (introduced verdict.now) here.items) }
 {
-    let Some(it) = map_of_step(maps, number) else {
-        return Ok(Vec::new(alloc));
-    };
-    match step_at(given.steps, it.leaf) {
-        None => unreachable!(),
-        Some(leaf) => origins_by(alloc, &leaf.formula, it, own_entries(verdict)),
+    match map_of_step(maps, number) {
+        None => Ok(Vec::new(alloc)),
+        Some(it) => origins_with(alloc, given, number, it, verdict),
     }
 }
 
-/// The origins of the symbols that the steps introduce, in the order of the steps and of their
-/// symbols, by the maps of the steps.
-pub fn origins_of(
+/// The same of the step of that number.
+fn origins_at(
     alloc: Global,
-    trace: &Trace,
-    graph: &Graph,
-    verdicts: &Verdicts,
+    given: &Given<'_>,
     maps: &[Option<StepMap>],
-) -> Result<Origins, NoMemory>
-    requires graph { IsGraphAnswer (nodes_of trace.now) (Ok graph.now) }
-    requires right { AreRightVerdicts trace.now graph.now verdicts.now }
-    requires maps { AreStepMaps (judged_by trace.now graph.now verdicts.now) maps.now }
-    ensures { IfOk result (λ origins. AreOrigins (judged_by trace.now graph.now verdicts.now)
-        origins.list) }
+    number: u32,
+) -> Result<Vec<Origin>, NoMemory>
+    requires right { IsRightGiven given.now }
+    requires maps { AreStepMaps (judged_given given.now) maps.now }
+    ensures { IfOk result (λ here. AreIntroduced (judged_given given.now) number here.items) }
 {
-    let given = Given {
-        steps: trace.steps.as_slice(),
-        rows: graph.parents.as_slice(),
-        verdicts: verdicts.list.as_slice(),
-    };
-    let list = all_origins(alloc, &given, maps)?;
-    Ok(Origins {
-        list: Seq::from_vec(list),
-    })
+    match verdict_at(given.verdicts, number) {
+        None => Ok(Vec::new(alloc)),
+        Some(verdict) => origins_here(alloc, given, maps, number, verdict),
+    }
 }
 
 /// The origins of all steps.
@@ -153,9 +167,37 @@ fn all_origins(
     };
     let mut list = Vec::new(alloc);
     for place in 0..count {
-        let verdict = &given.verdicts[place as usize];
-        let mut here = origins_here(alloc, given, maps, place + 1, verdict)?;
+        let mut here = origins_at(alloc, given, maps, place + 1)?;
         list.append(&mut here)?;
     }
     Ok(list)
+}
+
+/// The origins of the symbols that the steps introduce, in the order of the steps and of their
+/// symbols, by the maps of the steps.
+pub fn origins_of(
+    alloc: Global,
+    trace: &Trace,
+    graph: &Graph,
+    verdicts: &Verdicts,
+    maps: &[Option<StepMap>],
+) -> Result<Origins, NoMemory>
+    requires graph { IsGraphAnswer (nodes_of trace.now) (Ok graph.now) }
+    requires right { AreRightVerdicts trace.now graph.now verdicts.now }
+    requires maps { AreStepMaps (judged_by trace.now graph.now verdicts.now) maps.now }
+    ensures { IfOk result (λ origins. AreOrigins (judged_by trace.now graph.now verdicts.now)
+        origins.list) }
+{
+    let steps = trace.steps.as_slice();
+    let rows = graph.parents.as_slice();
+    let verdicts = verdicts.list.as_slice();
+    let given = Given {
+        steps,
+        rows,
+        verdicts,
+    };
+    let list = all_origins(alloc, &given, maps)?;
+    Ok(Origins {
+        list: Seq::from_vec(list),
+    })
 }

@@ -17,6 +17,7 @@ use Rattle.ground_instances.specs.declared.instance.Instance.{Instance}
 use Rattle.ground_instances.specs.declared.instance.Row.{Row}
 use Rattle.ground_instances.specs.declared.instance.RowLit.{RowLit}
 use Rattle.normal_form.specs.Forms.{all, alls, and, ex, exs, Form, form_of, lit, no, or, yes}
+use Rattle.normal_form.specs.Normal.{normal_of}
 use Rattle.normal_form.specs.declared.clause_list.ClauseRow.{ClauseRow}
 use Rattle.normal_form.specs.declared.form.Nf.{Nf}
 use Rattle.plan.proofs.Membership.{Among, among, among_either}
@@ -103,7 +104,7 @@ numbers_ground table is (n ∷ numbers) below t (inl e) = subst IsGround e (is.g
 numbers_ground table is (n ∷ numbers) below t (inr h) = numbers_ground table is numbers (All-tail (λ k. k < length table) n numbers below) t h
 
 literals_ground : (table : List Term) → IsTermTable table → (lits : List RowLit) → AreLiteralsBelow (length table) lits → AllGround (clause_terms (literals_by table lits))
-literals_ground table is [] below t h = absurd h
+literals_ground table is [] below = λ t h. absurd h
 literals_ground table is (one ∷ lits) below =
     let P : RowLit → Type 0 = λ x. AreBelow (length table) x.args in
     both_ground (terms_by table one.args) (clause_terms (literals_by table lits))
@@ -122,8 +123,7 @@ AreGroundInstances (it ∷ instances) = IsGroundInstance it × AreGroundInstance
 pub ground_rows : (table : List Term) → IsTermTable table → (rows : List Row) → AreRowsBelow table rows → AreGroundInstances (instances_by table rows)
 ground_rows table is [] below = tt
 ground_rows table is (row ∷ rows) below =
-    let here = All-head (IsRowBelow (length table)) row rows below in
-    (
+    let here = All-head (IsRowBelow (length table)) row rows below in (
       record { terms = numbers_ground table is row.terms here.terms; clause = literals_ground table is row.lits here.lits },
       ground_rows table is rows (All-tail (IsRowBelow (length table)) row rows below),
     )
@@ -131,18 +131,18 @@ ground_rows table is (row ∷ rows) below =
 -- ---- a plan's terms
 
 clauses_ground : (instances : List Instance) → AreGroundInstances instances → AllGround (flat_map clause_terms (clauses_in instances))
-clauses_ground [] h t there = absurd there
+clauses_ground [] h = λ t there. absurd there
 clauses_ground (it ∷ instances) h = both_ground (clause_terms it.lits) (flat_map clause_terms (clauses_in instances)) h.0.clause (clauses_ground instances h.1)
 
 thin_ground : (judged : Judged) (it : Instance) (thin : Thin) → IsGroundInstance it → IsThin judged it thin → AllGround (thin_terms thin)
 thin_ground judged it thin h (of_form k) =
-    subst (λ x. AllGround (thin_terms x)) (sym k.tree) (tree_ground k.sign _ k.entries k.row it.terms h.terms)
+    subst (λ x. AllGround (thin_terms x)) (sym k.tree) (tree_ground k.sign (normal_of k.leaf k.sign) k.entries k.row it.terms h.terms)
 thin_ground judged it thin h (of_image k) =
-    subst (λ x. AllGround (thin_terms x)) (sym k.tree) (tree_ground k.sign _ k.entries k.row it.terms h.terms)
+    subst (λ x. AllGround (thin_terms x)) (sym k.tree) (tree_ground k.sign (normal_of k.leaf k.sign) k.entries k.row it.terms h.terms)
 
 thins_ground : (judged : Judged) (instances : List Instance) (thins : List (Option Thin)) → AreGroundInstances instances → AreThins judged instances thins
     → AllGround (flat_map thin_terms (filter_map (λ thin. thin) thins))
-thins_ground judged [] [] h k t there = absurd there
+thins_ground judged [] [] h k = λ t there. absurd there
 thins_ground judged [] (thin ∷ thins) h k = absurd k
 thins_ground judged (it ∷ instances) [] h k = absurd k
 thins_ground judged (it ∷ instances) (None ∷ thins) h k = thins_ground judged instances thins h.1 k.1

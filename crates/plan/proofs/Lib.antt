@@ -14,7 +14,10 @@ pub mod OnePlan
 pub mod OnePull
 pub mod OriginAnswers
 pub mod OriginLaws
+mod PlanParts
+mod Refusals
 mod RootMarks
 pub mod StepMaps
 mod TreeAnswers
+mod TreeLists
 pub mod Visited

@@ -1,7 +1,6 @@
 -- There is one plan.
-use Rattle.std.proofs.Common.{◌≡◌, ◌≢◌, ◌<◌, ℕ, zero, suc, Bool, List, [], ◌∷◌, Contains, get_or, length, Option, Some, None, refl, sym, ap, ap₂, ◌∙◌, subst, arith}
+use Rattle.std.proofs.Common.{◌≡◌, ◌≢◌, ◌<◌, ℕ, suc, List, [], ◌∷◌, Contains, get_or, length, Option, Some, None, refl, sym, ap, ap₂, ◌∙◌, subst}
 use Rattle.std.proofs.lemmas.List.{ext_get_or}
-use Rattle.std.proofs.lemmas.List.Elements.{All-get_or}
 use Rattle.std.specs.Prelude.{Err, filter_map, Ok, Result}
 use Rattle.derivation_graph.proofs.AnswerLaws.{one_graph, one_root}
 use Rattle.derivation_graph.specs.declared.graph.Graph.{Graph}
@@ -10,7 +9,6 @@ use Rattle.derivation_graph.specs.declared.graph.GraphFault.TheVariants as graph
 use Rattle.dk_syntax.specs.declared.Problem.{Problem}
 use Rattle.dk_syntax.specs.declared.symbol.Kind.TheVariants.{Function}
 use Rattle.dk_syntax.specs.declared.symbol.SymKey.{SymKey}
-use Rattle.dk_syntax.specs.declared.term.Term.{Term}
 use Rattle.expansion.specs.declared.thin.Thin.{Thin}
 use Rattle.ground_instances.specs.Keys.{Judged}
 use Rattle.ground_instances.specs.Instances.{clauses_in, IsPullAnswer}

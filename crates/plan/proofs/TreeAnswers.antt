@@ -1,6 +1,7 @@
 -- Which thin tree an instance has, by its step's map and verdict.
 use Rattle.std.proofs.Common.{◌≡◌, ℕ, Bool, true, false, List, Option, Some, None, slice_get, refl, sym, ap, ◌∙◌, subst, inl, inr, arith}
 use Rattle.std.specs.Option.{MatchOption}
+use Rattle.std.specs.Result.{IfOk}
 use Rattle.expansion.specs.Choices.{thin_tree}
 use Rattle.expansion.specs.declared.thin.Thin.{Thin}
 use Rattle.ground_instances.proofs.StandsLaws.{stands_represents}
@@ -10,9 +11,8 @@ use Rattle.normal_form.specs.ClauseLists.{clause_rows}
 use Rattle.normal_form.specs.Normal.{normal_of}
 use Rattle.normal_form.specs.declared.clause_list.ClauseRow.{ClauseRow}
 use Rattle.normal_form.specs.declared.form.Nf.{Nf}
-use Rattle.plan.proofs.MapAnswers.{fit_leaf}
 use Rattle.plan.proofs.StepMaps.{not_composed, same_composed, same_verdict}
-use Rattle.plan.specs.Known.{HasFitLeaf, is_composed}
+use Rattle.plan.specs.Known.{is_composed}
 use Rattle.plan.specs.Laws.{AreRightSteps, judged_of}
 use Rattle.plan.specs.Maps.{HasNoMap, IsComposedMap, IsMap, IsMapOf, IsStepMap, to_form, to_image}
 use Rattle.plan.specs.Thins.{IsThin, IsThinAnswer, of_form, of_image}
@@ -63,13 +63,16 @@ module _ (judged : Judged) (it : Instance) where
 
   -- ---- the image of a composed step
 
+  image_none : (c : Composed) → Has judged it.step (Composes c) → slice_get c.image.rows it.clause ≡ None → (thin : Thin) → IsThin judged it thin → ⊥
+  image_none c h none thin (of_form k) = not_composed judged c h k.maps.leaf
+  image_none c h none thin (of_image k) =
+      let same : k.maps.composed ≡ c = same_composed k.maps.composed c (same_verdict judged it.step (Composes k.maps.composed) (Composes c) k.maps.here h) in
+      some_none (slice_get c.image.rows it.clause) k.row none (subst (λ (x : Composed). slice_get x.image.rows it.clause ≡ Some k.row) same k.listed)
+
   image_answer : (map_here : StepMap) (step : Step) (c : Composed) → Has judged it.step (Composes c) → it.stage ≡ 1
       → IsComposedMap judged it.step step.formula map_here.sign map_here.map.entries
       → (answer : Option Thin) → IsTreeAnswer c.image.rows (normal_of step.formula map_here.sign) map_here it.clause it.terms answer → IsThinAnswer judged it answer
-  image_answer map_here step c h stage maps None none thin (of_form k) = not_composed judged c h k.maps.leaf
-  image_answer map_here step c h stage maps None none thin (of_image k) =
-      let same : k.maps.composed ≡ c = same_composed k.maps.composed c (same_verdict judged it.step (Composes k.maps.composed) (Composes c) k.maps.here h) in
-      some_none (slice_get c.image.rows it.clause) k.row none (subst (λ (x : Composed). slice_get x.image.rows it.clause ≡ Some k.row) same k.listed)
+  image_answer map_here step c h stage maps None none = image_none c h none
   image_answer map_here step c h stage maps (Some thin) found =
       let same : c ≡ maps.composed = same_composed c maps.composed (same_verdict judged it.step (Composes c) (Composes maps.composed) h maps.here) in
       of_image (record {
@@ -93,15 +96,19 @@ module _ (judged : Judged) (it : Instance) where
 -- ---- the form of a step
 
 module _ (case : Case) (list : List Verdict) (s : AreRightSteps case list) (it : Instance) where
+  form_none : (v : Verdict) (represents : Nf) → Has (judged_of case list) it.step v → is_composed v ≡ false → Represents case it.step represents
+      → slice_get (clause_rows represents) it.clause ≡ None → (thin : Thin) → IsThin (judged_of case list) it thin → ⊥
+  form_none v represents h other rep none thin (of_form k) =
+      let same : k.maps.form ≡ represents = one_representative case (stands_represents case list s.are s.right k.maps.represents) represents rep in
+      some_none (slice_get (clause_rows represents) it.clause) k.row none (subst (λ x. slice_get (clause_rows x) it.clause ≡ Some k.row) same k.listed)
+  form_none v represents h other rep none thin (of_image k) =
+      composed_is v k.maps.composed (same_verdict (judged_of case list) it.step v (Composes k.maps.composed) h k.maps.here) other
+
   form_answer : (map_here : StepMap) (step : Step) (v : Verdict) (represents : Nf) → Has (judged_of case list) it.step v → is_composed v ≡ false → it.stage ≡ 0
       → IsMap (judged_of case list) it.step step.formula map_here.sign map_here.map.entries → Represents case it.step represents
       → (answer : Option Thin) → IsTreeAnswer (clause_rows represents) (normal_of step.formula map_here.sign) map_here it.clause it.terms answer
       → IsThinAnswer (judged_of case list) it answer
-  form_answer map_here step v represents h other stage maps rep None none thin (of_form k) =
-      let same : k.maps.form ≡ represents = one_representative case (stands_represents case list s.are s.right k.maps.represents) represents rep in
-      some_none (slice_get (clause_rows represents) it.clause) k.row none (subst (λ x. slice_get (clause_rows x) it.clause ≡ Some k.row) same k.listed)
-  form_answer map_here step v represents h other stage maps rep None none thin (of_image k) =
-      composed_is v k.maps.composed (same_verdict (judged_of case list) it.step v (Composes k.maps.composed) h k.maps.here) other
+  form_answer map_here step v represents h other stage maps rep None none = form_none v represents h other rep none
   form_answer map_here step v represents h other stage maps rep (Some thin) found =
       let same : represents ≡ maps.form = one_representative case rep maps.form (stands_represents case list s.are s.right maps.represents) in
       of_form (record {
@@ -122,12 +129,3 @@ module _ (case : Case) (list : List Verdict) (s : AreRightSteps case list) (it :
   other_tree map_here v known h other stage form is represents rep answer found =
       form_answer map_here known.step v represents h other stage (of_other (judged_of case list) it known.step map_here known.maps v h other) rep answer
       (subst (λ x. IsTreeAnswer (clause_rows represents) x map_here it.clause it.terms answer) (is known.step known.stands) found)
-
-map_fits : (case : Case) (list : List Verdict) (s : AreRightSteps case list) (i : ℕ) (step : Step) (map_here : StepMap) → step_in case.steps map_here.leaf ≡ Some step
-    → IsMapOf (judged_of case list) i step.formula map_here.sign map_here.map.entries → HasFitLeaf case.steps map_here
-map_fits case list s i step map_here stands (to_form m) = (step, stands, fit_leaf case list s m.leaf)
-map_fits case list s i step map_here stands (to_image m) = (step, stands, fit_leaf case list s m.leaf)
-
--- the leaf's form is within the limit
-pub fit_map : (case : Case) (list : List Verdict) → AreRightSteps case list → (i : ℕ) (map_here : StepMap) → IsStepMap (judged_of case list) i map_here → HasFitLeaf case.steps map_here
-fit_map case list s i map_here known = map_fits case list s i known.step map_here known.stands known.maps

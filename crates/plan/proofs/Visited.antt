@@ -106,9 +106,9 @@ module _ (judged : Judged) where
   is_from (seen list one rest after here v) k there = onward list one rest k (is_from v k there)
   is_from (fresh list one rest needs middle after new has first v) k there = elim (is_from v k there) [
     | inl h ↦ elim (among_either middle (one ∷ []) k h) [
-        | inl l ↦ reached list one rest needs k has (is_from first k l)
-        | inr r ↦ elim r [ inl e ↦ inr (one, inl refl, inl e) | inr none ↦ absurd none ]
-      ]
+      | inl l ↦ reached list one rest needs k has (is_from first k l)
+      | inr r ↦ elim r [ inl e ↦ inr (one, inl refl, inl e) | inr none ↦ absurd none ]
+    ]
     | inr h ↦ onward list one rest k (inr h)
   ]
 
@@ -118,9 +118,9 @@ module _ (judged : Judged) where
   not_yet list one needs middle new has v w there = elim (is_from v one there) [
     | inl h ↦ new (contained list one h)
     | inr h ↦ elim h.2 [
-        | inl e ↦ no_circle w (at_once one one needs has (subst (Among needs) e h.1))
-        | inr r ↦ no_circle w (further one h.0 one needs has h.1 r)
-      ]
+      | inl e ↦ no_circle w (at_once one one needs has (subst (Among needs) e h.1))
+      | inr r ↦ no_circle w (further one h.0 one needs has h.1 r)
+    ]
   ]
 
   once_visits : {list ks after : List Key} → Visits judged list ks after → AllWell list → AreOnce list → AreOnce after

@@ -3,6 +3,7 @@ use Rattle.std.specs.Prelude.{◌≡◌, ℕ, ◌-◌, Bool, List, map, slice_ge
 use Rattle.derivation_graph.specs.Graphs.{IsGraphAnswer}
 use Rattle.derivation_graph.specs.Roots.{IsRootAnswer}
 use Rattle.derivation_graph.specs.declared.graph.Graph.{Graph}
+use Rattle.derivation_graph.specs.declared.graph.GraphFault.{GraphFault}
 use Rattle.derivation_graph.specs.declared.graph.GraphFault.TheVariants as graph
 use Rattle.dk_syntax.specs.declared.Problem.{Problem}
 use Rattle.dk_syntax.specs.declared.formula.Formula.{Formula}
@@ -21,11 +22,13 @@ use Rattle.plan.specs.Thins.{AreThins}
 use Rattle.plan.specs.declared.plan.Plan.{Plan}
 use Rattle.plan.specs.declared.plan.PlanFault.{PlanFault}
 use Rattle.plan.specs.declared.plan.PlanFault.TheVariants.{Cycle, Memory, MissingParent, NoRefutation, Over, OverWeight, OverWide, Wrong}
+use Rattle.plan.specs.declared.planning.Start.{Start}
 use Rattle.skolem_order.specs.Order.{AreNeeded, root_terms}
 use Rattle.step_check.specs.Freshness.{AreVerdicts, IsFirstBad}
 use Rattle.step_check.specs.Steps.{case_of, is_conjecture_leaf, nodes_of}
 use Rattle.step_check.specs.declared.verdict.Verdict.{Verdict}
 use Rattle.step_check.specs.declared.verdict.Verdict.TheVariants as verdict
+use Rattle.step_check.specs.declared.verdict.Verdicts.{Verdicts}
 use Rattle.tstp_trace.specs.declared.step.Trace.{Trace}
 
 -- ---- the stages
@@ -114,7 +117,14 @@ IsGraphStage trace (Err (OverWeight weight)) = ⊥
 IsGraphStage trace (Err (OverWide step)) = ⊥
 IsGraphStage trace (Err Memory) = Unit {0}
 
--- ---- later stages; only private contracts cite this
+-- ---- stages; only private contracts cite this
+
+-- the graph, or the fault for that of the nodes
+abbrev pub graph_told : Result Graph GraphFault → Result Graph PlanFault
+graph_told (Ok found) = Ok found
+graph_told (Err (graph.MissingParent step name)) = Err (MissingParent step name)
+graph_told (Err (graph.Cycle step)) = Err (Cycle step)
+graph_told (Err graph.Memory) = Err Memory
 
 -- the fault tells the first bad step and its verdict
 abbrev pub IsBadFault : List Verdict → PlanFault → Type 0
@@ -141,3 +151,28 @@ IsPullFault judged root limit fault = (refused : PullFault) × IsPullAnswer judg
 pub record ArePulled (judged : Judged) (root limit : ℕ) (instances : Instances) : Type 0 where
   pub answer : IsPullAnswer judged root limit (Ok (instances_of instances))
   pub table : HasExactTable instances
+
+-- the graph and the root, or the first refusal
+abbrev pub IsStartStage : Problem → Trace → Result Start PlanFault → Type 0
+IsStartStage problem trace (Ok start) = AreStart problem trace start.graph start.root
+IsStartStage problem trace (Err fault) = (limit : ℕ) → IsPlanFault problem trace limit fault
+
+-- no step is bad, or the fault of the first one that is
+abbrev pub IsBadStage : List Verdict → Result Unit PlanFault → Type 0
+IsBadStage list (Ok nothing) = IsFirstBad list None
+IsBadStage list (Err fault) = IsBadFault list fault
+
+-- the verdicts, none of which is bad, or the first refusal
+abbrev pub IsVerdictStage : Problem → Trace → Graph → ℕ → Result Verdicts PlanFault → Type 0
+IsVerdictStage problem trace found root (Ok verdicts) = AreJudged problem trace found root verdicts.list × IsFirstBad verdicts.list None
+IsVerdictStage problem trace found root (Err fault) = (limit : ℕ) → IsPlanFault problem trace limit fault
+
+-- the instances, or the fault for theirs
+abbrev pub pull_told : Result Instances PullFault → Result Instances PlanFault
+pull_told (Ok instances) = Ok instances
+pull_told (Err fault) = Err (fault_of fault)
+
+-- the instances, or why they are refused
+abbrev pub IsPullStage : Judged → ℕ → ℕ → Result Instances PlanFault → Type 0
+IsPullStage judged root limit (Ok instances) = ArePulled judged root limit instances
+IsPullStage judged root limit (Err fault) = IsPullFault judged root limit fault

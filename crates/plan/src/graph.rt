@@ -1,6 +1,6 @@
 //! The graph of a trace.
 ghost use Rattle.std.specs.Prelude.{◌≡◌, IfOk};
-ghost use Rattle.plan.specs.Plans.{IsGraphStage};
+ghost use Rattle.plan.specs.Plans.{IsGraphStage, graph_told};
 ghost use Rattle.step_check.specs.Steps.{node_of, nodes_of, parent_names};
 ghost use Rattle.tstp_trace.specs.Names.{AreDistinct};
 ghost use Rattle.tstp_trace.specs.Traces.{names_of};
@@ -50,15 +50,11 @@ fn nodes(alloc: Global, trace: &Trace) -> Result<Seq<Node>, NoMemory>
     Ok(all)
 }
 
-/// The graph of a trace whose steps have different names.
-pub fn graph_in(alloc: Global, trace: &Trace) -> Result<Graph, PlanFault>
-    requires { AreDistinct (names_of trace.now) }
-    ensures { IsGraphStage trace.now result }
+/// The graph, or why there is no plan.
+fn told(found: Result<Graph, GraphFault>) -> Result<Graph, PlanFault>
+    ensures { result ≡ graph_told found }
 {
-    let Ok(nodes) = nodes(alloc, trace) else {
-        return Err(PlanFault::Memory);
-    };
-    match graph_of(alloc, &nodes) {
+    match found {
         Ok(graph) => Ok(graph),
         Err(GraphFault::MissingParent { step, name }) => {
             Err(PlanFault::MissingParent { step, name })
@@ -66,4 +62,13 @@ pub fn graph_in(alloc: Global, trace: &Trace) -> Result<Graph, PlanFault>
         Err(GraphFault::Cycle { step }) => Err(PlanFault::Cycle { step }),
         Err(GraphFault::Memory) => Err(PlanFault::Memory),
     }
+}
+
+/// The graph of a trace whose steps have different names.
+pub fn graph_in(alloc: Global, trace: &Trace) -> Result<Graph, PlanFault>
+    requires { AreDistinct (names_of trace.now) }
+    ensures { IsGraphStage trace.now result }
+{
+    let nodes = nodes(alloc, trace)?;
+    told(graph_of(alloc, &nodes))
 }

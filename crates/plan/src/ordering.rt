@@ -1,5 +1,5 @@
 //! The Skolem terms that thin trees and instances need.
-ghost use Rattle.std.specs.Prelude.{◌≡◌, ◌<◌, filter_map, length, slice_get, IfOk, Some};
+ghost use Rattle.std.specs.Prelude.{◌≡◌, ◌<◌, ◌++◌, filter_map, length, option_to_list, slice_get, IfOk, OnOk, Some};
 ghost use Rattle.dk_syntax.specs.TermTables.{IsTermTable};
 ghost use Rattle.ground_instances.specs.Instances.{clauses_in};
 ghost use Rattle.ground_instances.specs.Lists.{instances_of};
@@ -22,15 +22,26 @@ fn copied(alloc: Global, thin: &Thin) -> Result<Thin, NoMemory>
     })
 }
 
+/// Puts a copy of the thin tree at the end, where there is one.
+fn put(alloc: Global, trees: &mut Seq<Thin>, thin: &Option<Thin>) -> Result<(), NoMemory>
+    ensures { OnOk result (trees.new ≡ trees.old ++ option_to_list thin.now) }
+{
+    match thin {
+        None => Ok(()),
+        Some(thin) => {
+            trees.push(copied(alloc, thin)?)?;
+            Ok(())
+        }
+    }
+}
+
 /// The thin trees that there are.
 fn present(alloc: Global, thins: &[Option<Thin>]) -> Result<Seq<Thin>, NoMemory>
     ensures { IfOk result (λ trees. trees ≡ filter_map (λ thin. thin) thins.now) }
 {
     let mut trees = Seq::new(alloc);
     for thin in thins {
-        if let Some(thin) = thin {
-            trees.push(copied(alloc, thin)?)?;
-        }
+        put(alloc, &mut trees, thin)?;
     }
     Ok(trees)
 }
@@ -61,7 +72,8 @@ fn clauses_of(alloc: Global, instances: &Instances) -> Result<Seq<Seq<Literal>>,
     };
     let mut clauses = Seq::new(alloc);
     for number in 0..count {
-        clauses.push(clause_at(alloc, instances, number)?)?;
+        let lits = clause_at(alloc, instances, number)?;
+        clauses.push(lits)?;
     }
     Ok(clauses)
 }
@@ -75,9 +87,9 @@ pub fn order_of(
 ) -> Result<Seq<Term>, NoMemory>
     ensures needed { IfOk result (λ order.
         AreGround (root_terms (filter_map (λ thin. thin) thins.now)
-            (clauses_in (instances_of instances.now)))
+        (clauses_in (instances_of instances.now)))
         → AreNeeded origins.now.list (root_terms (filter_map (λ thin. thin) thins.now)
-            (clauses_in (instances_of instances.now))) order) }
+        (clauses_in (instances_of instances.now))) order) }
     ensures table { IfOk result (λ order. IsTermTable instances.now.table) }
 {
     let _count = instances.table.len();

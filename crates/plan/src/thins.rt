@@ -2,7 +2,7 @@
 //!
 //! An instance of a leaf's clause, or of a structural step over a leaf, has a thin tree, and so has one
 //! of the image of a form over a leaf. The others follow from what they need, and have none.
-ghost use Rattle.std.specs.Prelude.{◌≡◌, ◌<◌, IfOk, Some, length};
+ghost use Rattle.std.specs.Prelude.{◌≡◌, false, slice_get, IfOk, MatchOption, None, Some};
 ghost use Rattle.ground_instances.specs.Keys.{Has};
 ghost use Rattle.ground_instances.specs.Lists.{instances_of};
 ghost use Rattle.normal_form.specs.ClauseLists.{clause_rows};
@@ -15,13 +15,13 @@ ghost use Rattle.step_check.specs.Representatives.{Represents};
 ghost use Rattle.step_check.specs.Steps.{step_in};
 ghost use Rattle.tstp_trace.specs.declared.step.Step.{Step as TraceStep};
 
-use crate::given::{Given, verdict_at};
-use crate::maps::{StepMap, leaf_form, map_of_step};
+use crate::given::{step_at, verdict_at};
+use crate::maps::{StepMap, map_of_step};
 use derivation_graph::Graph;
 use dk_syntax::{NoMemory, Problem, Seq};
 use expansion::{Thin, thin_of};
 use ground_instances::{Instance, Instances, instance_at};
-use normal_form::{ClauseFault, ClauseList, ClauseRow, Nf, clauses};
+use normal_form::{ClauseFault, ClauseList, ClauseRow, Nf, NfFault, clauses, normal};
 use std::alloc::Global;
 use step_check::{Verdict, Verdicts, form};
 use step_compose::Composed;
@@ -37,20 +37,29 @@ pub struct Sources<'a> {
     pub maps: &'a [Option<StepMap>],
 }
 
-/// The form of the leaf on which the instance's step stands.
-fn form_under(alloc: Global, sources: &Sources<'_>, step: u32, it: &StepMap) -> Result<Nf, NoMemory>
-    requires sources { AreSources sources.now }
-    requires map { IsStepMap (judged_from sources.now) step it.now }
+/// The form of the leaf on which a step with that map stands. The verdicts say that it is within its
+/// limit.
+fn leaf_form(alloc: Global, trace: &Trace, it: &StepMap) -> Result<Nf, NoMemory>
     ensures { IfOk result (λ form. (leaf : TraceStep)
-        → step_in sources.now.trace.now.steps it.now.leaf ≡ Some leaf
+        → step_in trace.now.steps it.now.leaf ≡ Some leaf
         → form ≡ normal_of leaf.formula it.now.sign) }
 {
-    let given = Given {
-        steps: sources.trace.steps.as_slice(),
-        rows: sources.graph.parents.as_slice(),
-        verdicts: sources.verdicts.list.as_slice(),
+    let Some(leaf) = step_at(trace.steps.as_slice(), it.leaf) else {
+        return Err(NoMemory);
     };
-    leaf_form(alloc, &given, it)
+    match normal(alloc, it.sign, &leaf.formula) {
+        Ok(form) => Ok(form),
+        Err(NfFault::TooLarge { nodes: _ }) => Err(NoMemory),
+        Err(NfFault::Memory) => Err(NoMemory),
+    }
+}
+
+/// The row of that number, where there is one.
+fn row_at(rows: &[ClauseRow], number: u32) -> Option<&ClauseRow>
+    ensures { MatchOption result (slice_get rows.entry.now number ≡ None)
+        (λ row. slice_get rows.entry.now number ≡ Some row.now) }
+{
+    rows.get(number as usize)
 }
 
 /// The tree of the row of that number, where there is one.
@@ -64,13 +73,11 @@ fn tree_at(
     ensures { IfOk result (λ answer. IsTreeAnswer rows.now form.now it.now instance.now.clause
         instance.now.terms answer) }
 {
-    match rows.get(instance.clause as usize) {
-        None => Ok(None),
-        Some(row) => {
-            let thin = thin_of(alloc, it.sign, form, &it.map, row, &instance.terms)?;
-            Ok(Some(thin))
-        }
-    }
+    let Some(row) = row_at(rows, instance.clause) else {
+        return Ok(None);
+    };
+    let thin = thin_of(alloc, it.sign, form, &it.map, row, &instance.terms)?;
+    Ok(Some(thin))
 }
 
 /// The clause list of a form that represents a step. The verdicts say that it is within its limits.
@@ -87,7 +94,7 @@ fn list_of(alloc: Global, form: &Nf) -> Result<ClauseList, NoMemory>
 
 /// The form that represents a step. The verdicts say that it is within its limit.
 fn form_of_step(alloc: Global, sources: &Sources<'_>, step: u32) -> Result<Nf, NoMemory>
-    requires sources { AreSources sources.now }
+    requires { AreSources sources.now }
     ensures { IfOk result (λ form. Represents (case_in sources.now) step form) }
 {
     if step == 0 || step as usize > sources.graph.parents.len() {
@@ -118,7 +125,7 @@ fn form_tree(
     }
     let form = form_of_step(alloc, sources, instance.step)?;
     let list = list_of(alloc, &form)?;
-    let leaf = form_under(alloc, sources, instance.step, it)?;
+    let leaf = leaf_form(alloc, sources.trace, it)?;
     tree_at(alloc, list.rows.as_slice(), &leaf, it, instance)
 }
 
@@ -138,8 +145,44 @@ fn image_tree(
     if instance.stage != 1 {
         return Ok(None);
     }
-    let leaf = form_under(alloc, sources, instance.step, it)?;
+    let leaf = leaf_form(alloc, sources.trace, it)?;
     tree_at(alloc, composed.image.rows.as_slice(), &leaf, it, instance)
+}
+
+/// What is composed, where the verdict is that of a composed step.
+fn composed_of(verdict: &Verdict) -> Option<&Composed>
+    ensures { MatchOption result (is_composed verdict.entry.now ≡ false)
+        (λ composed. verdict.entry.now ≡ Verdict.Composes composed.now) }
+{
+    match verdict {
+        Verdict::Composes(composed) => Some(composed),
+        Verdict::Leaf => None,
+        Verdict::Conjecture => None,
+        Verdict::Structural(_) => None,
+        Verdict::Clausal(_) => None,
+        Verdict::Chained(_) => None,
+        Verdict::Wrong(_) => None,
+        Verdict::Over(_) => None,
+    }
+}
+
+/// The thin tree of an instance whose step has that map and verdict.
+fn tree_by(
+    alloc: Global,
+    sources: &Sources<'_>,
+    it: &StepMap,
+    instance: &Instance,
+    verdict: &Verdict,
+) -> Result<Option<Thin>, NoMemory>
+    requires sources { AreSources sources.now }
+    requires map { IsStepMap (judged_from sources.now) instance.now.step it.now }
+    requires here { Has (judged_from sources.now) instance.now.step verdict.now }
+    ensures { IfOk result (λ answer. IsThinAnswer (judged_from sources.now) instance.now answer) }
+{
+    match composed_of(verdict) {
+        None => form_tree(alloc, sources, it, instance, verdict),
+        Some(composed) => image_tree(alloc, sources, it, instance, composed),
+    }
 }
 
 /// The thin tree of an instance whose step has a map.
@@ -155,8 +198,7 @@ fn mapped_tree(
 {
     match verdict_at(sources.verdicts.list.as_slice(), instance.step) {
         None => Err(NoMemory),
-        Some(Verdict::Composes(composed)) => image_tree(alloc, sources, it, instance, composed),
-        Some(verdict) => form_tree(alloc, sources, it, instance, verdict),
+        Some(verdict) => tree_by(alloc, sources, it, instance, verdict),
     }
 }
 
@@ -191,7 +233,8 @@ pub fn thins_of(
     let mut thins = Seq::new(alloc);
     for number in 0..count {
         let instance = instance_at(alloc, instances, number)?;
-        thins.push(thin_here(alloc, sources, &instance)?)?;
+        let thin = thin_here(alloc, sources, &instance)?;
+        thins.push(thin)?;
     }
     Ok(thins)
 }

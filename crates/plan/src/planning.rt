@@ -1,8 +1,8 @@
 //! The plan of a trace, or the first refusal.
-ghost use Rattle.std.specs.Prelude.{◌≡◌, ◌×◌, ◌<◌, ℕ, None, Some, Ok, IfErr, IfOk, OnOk};
+ghost use Rattle.std.specs.Prelude.{◌≡◌, ◌<◌, None, Some, IfOk};
 ghost use Rattle.ground_instances.specs.Keys.{judged_by};
 ghost use Rattle.ground_instances.specs.Verdicts.{AreRightVerdicts};
-ghost use Rattle.plan.specs.Plans.{AreJudged, ArePulled, AreStart, IsBadFault, IsPlan, IsPlanAnswer, IsPlanFault, IsPullFault, judged_in};
+ghost use Rattle.plan.specs.Plans.{AreJudged, ArePulled, AreStart, IsBadFault, IsBadStage, IsPlan, IsPlanAnswer, IsPullStage, IsStartStage, IsVerdictStage, judged_in, pull_told};
 ghost use Rattle.step_check.specs.Freshness.{IsFirstBad};
 ghost use Rattle.tstp_trace.specs.Names.{AreDistinct};
 ghost use Rattle.tstp_trace.specs.Traces.{HaveFitParents, names_of};
@@ -33,12 +33,11 @@ pub struct Start {
 
 fn start_of(alloc: Global, problem: &Problem, trace: &Trace) -> Result<Start, PlanFault>
     requires { AreDistinct (names_of trace.now) }
-    ensures ok { IfOk result (λ start. AreStart problem.now trace.now start.graph start.root) }
-    ensures err { IfErr result (λ fault. (limit : ℕ)
-        → IsPlanFault problem.now trace.now limit fault) }
+    ensures { IsStartStage problem.now trace.now result }
 {
     let graph = graph_in(alloc, trace)?;
-    match root_in(alloc, problem, trace)? {
+    let found = root_in(alloc, problem, trace)?;
+    match found {
         Some(root) => Ok(Start { graph, root }),
         None => Err(PlanFault::NoRefutation),
     }
@@ -50,10 +49,10 @@ fn bad_fault(alloc: Global, verdicts: &Verdicts, step: u32) -> Result<PlanFault,
     ensures { IfOk result (λ fault. IsBadFault verdicts.now.list fault) }
 {
     match verdict_at(verdicts.list.as_slice(), step) {
-        Some(Verdict::Wrong(reason)) => Ok(PlanFault::Wrong {
-            step,
-            reason: reason.copy(alloc)?,
-        }),
+        Some(Verdict::Wrong(reason)) => {
+            let copy = reason.copy(alloc)?;
+            Ok(PlanFault::Wrong { step, reason: copy })
+        }
         Some(Verdict::Over(limit)) => Ok(PlanFault::Over {
             step,
             limit: *limit,
@@ -64,16 +63,16 @@ fn bad_fault(alloc: Global, verdicts: &Verdicts, step: u32) -> Result<PlanFault,
 
 /// Whether no step is wrong or over a limit, or the first that is.
 fn all_right(alloc: Global, verdicts: &Verdicts) -> Result<(), PlanFault>
-    ensures ok { OnOk result (IsFirstBad verdicts.now.list None) }
-    ensures err { IfErr result (λ fault. IsBadFault verdicts.now.list fault) }
+    ensures { IsBadStage verdicts.now.list result }
 {
     if u32::try_from(verdicts.list.len()).is_err() {
         return Err(PlanFault::Memory);
     }
-    match first_bad(verdicts) {
-        None => Ok(()),
-        Some(step) => Err(bad_fault(alloc, verdicts, step)?),
-    }
+    let Some(step) = first_bad(verdicts) else {
+        return Ok(());
+    };
+    let fault = bad_fault(alloc, verdicts, step)?;
+    Err(fault)
 }
 
 /// The verdicts on the steps, where none is bad.
@@ -89,15 +88,23 @@ fn right_verdicts<R: Threads + Sync, G: Gate>(
     requires start { AreStart problem.now trace.now start.now.graph start.now.root }
     requires parents { HaveFitParents trace.now.steps }
     requires workers { 0 < workers }
-    ensures judged { IfOk result (λ verdicts.
-        AreJudged problem.now trace.now start.now.graph start.now.root verdicts.list) }
-    ensures right { IfOk result (λ verdicts. IsFirstBad verdicts.list None) }
-    ensures err { IfErr result (λ fault. (limit : ℕ)
-        → IsPlanFault problem.now trace.now limit fault) }
+    ensures { IsVerdictStage problem.now trace.now start.now.graph start.now.root result }
 {
     let verdicts = judge_all(rt, alloc, problem, trace, &start.graph, workers, gate)?;
     all_right(alloc, &verdicts)?;
     Ok(verdicts)
+}
+
+/// The instances, or why there is no plan.
+fn told(found: Result<Instances, PullFault>) -> Result<Instances, PlanFault>
+    ensures { result ≡ pull_told found }
+{
+    match found {
+        Ok(instances) => Ok(instances),
+        Err(PullFault::OverWeight { limit }) => Err(PlanFault::OverWeight { limit }),
+        Err(PullFault::OverWide { step }) => Err(PlanFault::OverWide { step }),
+        Err(PullFault::Memory) => Err(PlanFault::Memory),
+    }
 }
 
 /// The instances that the root needs.
@@ -109,17 +116,10 @@ fn pulled(
     limit: u64,
 ) -> Result<Instances, PlanFault>
     requires { AreRightVerdicts trace.now start.now.graph verdicts.now }
-    ensures ok { IfOk result (λ instances. ArePulled
-        (judged_by trace.now start.now.graph verdicts.now) start.now.root limit instances) }
-    ensures err { IfErr result (λ fault. IsPullFault
-        (judged_by trace.now start.now.graph verdicts.now) start.now.root limit fault) }
+    ensures { IsPullStage (judged_by trace.now start.now.graph verdicts.now) start.now.root limit
+        result }
 {
-    match pull_back(alloc, trace, &start.graph, verdicts, start.root, limit) {
-        Ok(instances) => Ok(instances),
-        Err(PullFault::OverWeight { limit }) => Err(PlanFault::OverWeight { limit }),
-        Err(PullFault::OverWide { step }) => Err(PlanFault::OverWide { step }),
-        Err(PullFault::Memory) => Err(PlanFault::Memory),
-    }
+    told(pull_back(alloc, trace, &start.graph, verdicts, start.root, limit))
 }
 
 /// The plan with these instances.
@@ -140,23 +140,25 @@ fn plan_with(
     ensures { IfOk result (λ plan. IsPlan problem.now trace.now limit plan) }
 {
     let maps = maps_of(alloc, trace, &start.graph, &verdicts)?;
-    let origins = origins_of(alloc, trace, &start.graph, &verdicts, maps.as_slice())?;
+    let list = maps.as_slice();
+    let origins = origins_of(alloc, trace, &start.graph, &verdicts, list)?;
     let sources = Sources {
         problem,
         trace,
         graph: &start.graph,
         verdicts: &verdicts,
-        maps: maps.as_slice(),
+        maps: list,
     };
     let thins = thins_of(alloc, &sources, &instances)?;
-    let order = order_of(alloc, &origins, thins.as_slice(), &instances)?;
-    let weight = weight(&instances);
+    let trees = thins.as_slice();
+    let order = order_of(alloc, &origins, trees, &instances)?;
+    let total = weight(&instances);
     Ok(Plan {
         graph: start.graph,
         root: start.root,
         verdicts,
         instances,
-        weight,
+        weight: total,
         maps,
         thins,
         origins,
@@ -179,8 +181,10 @@ fn plan_from(
     ensures { IsPlanAnswer problem.now trace.now limit result }
 {
     let instances = pulled(alloc, trace, &start, &verdicts, limit)?;
-    let plan = plan_with(alloc, problem, trace, limit, start, verdicts, instances)?;
-    Ok(plan)
+    match plan_with(alloc, problem, trace, limit, start, verdicts, instances) {
+        Ok(plan) => Ok(plan),
+        Err(NoMemory) => Err(PlanFault::Memory),
+    }
 }
 
 /// What the proof of a trace's refutation is made from, or the first refusal: a missing parent, a

@@ -1,0 +1,273 @@
+//! The reports on the expansions of worked traces.
+use dk_io::NoGate;
+use extract::expansion_report;
+use plan::{Plan, PlanFault, make_plan};
+use std::alloc::Global;
+use std::test::Fail;
+use std::thread::Threads;
+use tptp_text::read_items;
+use tstp_trace::{problem_from, trace_from};
+
+/// The plan of a problem and a trace, or the first refusal.
+fn planned<R: Threads + Sync>(
+    rt: &R,
+    alloc: Global,
+    problem: &str,
+    trace: &str,
+    limit: u64,
+) -> Result<Result<Plan, PlanFault>, Fail> {
+    let problem = problem_from(alloc, read_items(alloc, problem.as_bytes())?)?;
+    let trace = trace_from(alloc, read_items(alloc, trace.as_bytes())?)?;
+    Ok(make_plan(rt, alloc, &problem, &trace, limit, 4, &NoGate))
+}
+
+/// The report on the expansion.
+fn report<R: Threads + Sync>(
+    rt: &R,
+    alloc: Global,
+    problem: &str,
+    text: &str,
+) -> Result<Vec<u8>, Fail> {
+    let plan = planned(rt, alloc, problem, text, 1_000_000)?;
+    let trace = trace_from(alloc, read_items(alloc, text.as_bytes())?)?;
+    match plan {
+        Ok(plan) => Ok(expansion_report(alloc, &trace, &plan)?),
+        Err(_) => Err(Fail::new("the trace has no plan")),
+    }
+}
+
+const DRINKER_PROBLEM: &str = "fof(g,conjecture,?[X]:(p(X)=>![Y]:p(Y))).
+";
+
+const DRINKER_TRACE: &str = "fof(g,conjecture,?[X]:(p(X)=>![Y]:p(Y)),file(x,g)).
+fof(n,negated_conjecture,~?[X]:(p(X)=>![Y]:p(Y)),inference(n,[status(cth)],[g])).
+fof(m,plain,![X]:(p(X)&?[Y]:~p(Y)),inference(f,[status(thm)],[n])).
+fof(s,plain,![X]:(p(X)&~p(f(X))),inference(k,[status(esa)],[m])).
+cnf(c1,plain,p(X),inference(c,[status(thm)],[s])).
+cnf(c2,plain,~p(f(X)),inference(c,[status(thm)],[s])).
+cnf(e,plain,$false,inference(r,[status(thm)],[c1,c2])).
+";
+
+const DRINKER_REPORT: &str = "eigen 0 f($any): ~![X0]:p(X0)
+instance 0 step 4 clause 0: p(f($any))
+thin 0 g - picks L terms f($any) skolems none
+instance 1 step 5 clause 0: p(f($any))
+instance 2 step 4 clause 1: ~p(f($any))
+thin 2 g - picks R terms $any skolems f($any)
+instance 3 step 6 clause 0: ~p(f($any))
+instance 4 step 7 clause 0: $false
+weight 11
+";
+
+// A negated conjecture is a leaf with a negative sign, and its universal an existential.
+#[test]
+fn the_drinker_has_one_eigenvariable(rt: HostRuntime) -> Result<(), Fail> {
+    let text = report(&rt, rt.alloc(), DRINKER_PROBLEM, DRINKER_TRACE)?;
+    assert_eq!(rt; text.as_slice(), DRINKER_REPORT.as_bytes());
+    Ok(())
+}
+
+const PATH_PROBLEM: &str = "fof(a1,axiom,![Y]:?[X]:r(Y,X)).
+fof(g,conjecture,?[X,Y,Z]:((r(a,X)&r(X,Y))&r(Y,Z))).
+";
+
+const PATH_TRACE: &str = "fof(a1,axiom,![Y]:?[X]:r(Y,X),file(x,a1)).
+fof(g,conjecture,?[X,Y,Z]:((r(a,X)&r(X,Y))&r(Y,Z)),file(x,g)).
+fof(s,plain,![Y]:r(Y,f(Y)),inference(k,[status(esa)],[a1])).
+fof(n,negated_conjecture,~?[X,Y,Z]:((r(a,X)&r(X,Y))&r(Y,Z)),inference(n,[status(cth)],[g])).
+cnf(c1,plain,~r(a,X)|~r(X,Y)|~r(Y,Z),inference(c,[status(thm)],[n])).
+cnf(c2,plain,~r(f(a),Y)|~r(Y,Z),inference(r,[status(thm)],[c1,s])).
+cnf(c3,plain,~r(f(f(a)),Z),inference(r,[status(thm)],[c2,s])).
+cnf(e,plain,$false,inference(r,[status(thm)],[c3,s])).
+";
+
+const PATH_REPORT: &str = "eigen 0 f(a): ?[X0]:r(a,X0)
+eigen 1 f(f(a)): ?[X0]:r(f(a),X0)
+eigen 2 f(f(f(a))): ?[X0]:r(f(f(a)),X0)
+instance 0 step 3 clause 0: r(f(f(a)),f(f(f(a))))
+thin 0 a1 + picks none terms f(f(a)) skolems f(f(f(a)))
+instance 1 step 3 clause 0: r(f(a),f(f(a)))
+thin 1 a1 + picks none terms f(a) skolems f(f(a))
+instance 2 step 3 clause 0: r(a,f(a))
+thin 2 a1 + picks none terms a skolems f(a)
+instance 3 step 5 clause 0: ~r(a,f(a)) | ~r(f(a),f(f(a))) | ~r(f(f(a)),f(f(f(a))))
+thin 3 g - picks none terms f(a), f(f(a)), f(f(f(a))) skolems none
+instance 4 step 6 clause 0: ~r(f(a),f(f(a))) | ~r(f(f(a)),f(f(f(a))))
+instance 5 step 7 clause 0: ~r(f(f(a)),f(f(f(a))))
+instance 6 step 8 clause 0: $false
+weight 20
+";
+
+// Each Skolem term comes after the one that stands in it.
+#[test]
+fn nested_terms_stand_by_their_depth(rt: HostRuntime) -> Result<(), Fail> {
+    let text = report(&rt, rt.alloc(), PATH_PROBLEM, PATH_TRACE)?;
+    assert_eq!(rt; text.as_slice(), PATH_REPORT.as_bytes());
+    Ok(())
+}
+
+#[test]
+fn the_limit_itself_is_let_through(rt: HostRuntime) -> Result<(), Fail> {
+    let within = planned(&rt, rt.alloc(), PATH_PROBLEM, PATH_TRACE, 20)?;
+    let above = planned(&rt, rt.alloc(), PATH_PROBLEM, PATH_TRACE, 19)?;
+    assert!(rt; within.is_ok());
+    assert!(rt; matches!(above, Err(PlanFault::OverWeight { limit: 19 })));
+    Ok(())
+}
+
+const SHARED_PROBLEM: &str = "fof(a1,axiom,![Y,Z]:(q(Z)|?[X]:r(Y,X))).
+fof(a2,axiom,~q(a)|~q(b)).
+fof(a5,axiom,![X]:~r(a,X)).
+";
+
+const SHARED_TRACE: &str = "fof(a1,axiom,![Y,Z]:(q(Z)|?[X]:r(Y,X)),file(x,a1)).
+fof(a2,axiom,~q(a)|~q(b),file(x,a2)).
+fof(a5,axiom,![X]:~r(a,X),file(x,a5)).
+fof(s,plain,![Y,Z]:(q(Z)|r(Y,f(Y))),inference(k,[status(esa)],[a1])).
+cnf(d1,plain,q(Z),inference(r,[status(thm)],[s,a5])).
+cnf(d2,plain,~q(b),inference(r,[status(thm)],[d1,a2])).
+cnf(e,plain,$false,inference(r,[status(thm)],[d1,d2])).
+";
+
+const SHARED_REPORT: &str = "eigen 0 f(a): ?[X0]:r(a,X0)
+instance 0 step 4 clause 0: q(b) | r(a,f(a))
+thin 0 a1 + picks none terms a, b skolems f(a)
+instance 1 step 3 clause 0: ~r(a,f(a))
+thin 1 a5 + picks none terms f(a) skolems none
+instance 2 step 5 clause 0: q(b)
+instance 3 step 4 clause 0: q(a) | r(a,f(a))
+thin 3 a1 + picks none terms a, a skolems f(a)
+instance 4 step 5 clause 0: q(a)
+instance 5 step 2 clause 0: ~q(a) | ~q(b)
+thin 5 a2 + picks none terms none skolems none
+instance 6 step 6 clause 0: ~q(b)
+instance 7 step 7 clause 0: $false
+weight 21
+";
+
+#[test]
+fn two_instances_share_an_eigenvariable(rt: HostRuntime) -> Result<(), Fail> {
+    let text = report(&rt, rt.alloc(), SHARED_PROBLEM, SHARED_TRACE)?;
+    assert_eq!(rt; text.as_slice(), SHARED_REPORT.as_bytes());
+    Ok(())
+}
+
+const RANKED_PROBLEM: &str = "fof(x,axiom,?[X,Z]:r(X,Z)).
+fof(g,conjecture,?[X,Z]:r(X,Z)).
+";
+
+const RANKED_TRACE: &str = "fof(x,axiom,?[X,Z]:r(X,Z),file(q,x)).
+fof(s,plain,?[Z]:r(z,Z),inference(k,[status(esa)],[x])).
+fof(t,plain,r(z,b),inference(k,[status(esa)],[s])).
+fof(g,conjecture,?[X,Z]:r(X,Z),file(q,g)).
+fof(n,negated_conjecture,![X,Z]:~r(X,Z),inference(n,[status(cth)],[g])).
+cnf(e,plain,$false,inference(r,[status(thm)],[t,n])).
+";
+
+const RANKED_REPORT: &str = "eigen 0 z: ?[X0]:?[X1]:r(X0,X1)
+eigen 1 b: ?[X0]:r(z,X0)
+instance 0 step 3 clause 0: r(z,b)
+thin 0 x + picks none terms none skolems z, b
+instance 1 step 5 clause 0: ~r(z,b)
+thin 1 g - picks none terms z, b skolems none
+instance 2 step 6 clause 0: $false
+weight 7
+";
+
+// Of two constants the one of the outer existential comes first, though its name is the greater one.
+#[test]
+fn terms_of_one_depth_stand_by_their_rank(rt: HostRuntime) -> Result<(), Fail> {
+    let text = report(&rt, rt.alloc(), RANKED_PROBLEM, RANKED_TRACE)?;
+    assert_eq!(rt; text.as_slice(), RANKED_REPORT.as_bytes());
+    Ok(())
+}
+
+const CHAIN_PROBLEM: &str = "cnf(a1,axiom,p).
+cnf(a2,axiom,~p|q).
+cnf(a3,axiom,~q).
+";
+
+const CHAIN_TRACE: &str = "cnf(a1,axiom,p,file(x,a1)).
+cnf(a2,axiom,~p|q,file(x,a2)).
+cnf(a3,axiom,~q,file(x,a3)).
+cnf(c,plain,$false,inference(r,[status(thm)],[a1,a2,a3])).
+";
+
+const CHAIN_REPORT: &str = "instance 0 step 1 clause 0: p
+thin 0 a1 + picks none terms none skolems none
+instance 1 step 2 clause 0: ~p | q
+thin 1 a2 + picks none terms none skolems none
+instance 2 step 4.1 clause 0: q
+instance 3 step 3 clause 0: ~q
+thin 3 a3 + picks none terms none skolems none
+instance 4 step 4 clause 0: $false
+weight 10
+";
+
+#[test]
+fn a_chain_has_its_stages(rt: HostRuntime) -> Result<(), Fail> {
+    let text = report(&rt, rt.alloc(), CHAIN_PROBLEM, CHAIN_TRACE)?;
+    assert_eq!(rt; text.as_slice(), CHAIN_REPORT.as_bytes());
+    Ok(())
+}
+
+const COMPOSED_PROBLEM: &str = "fof(a1,axiom,![X]:?[Y]:(r(X,Y)&s(Y))).
+fof(a2,axiom,![X]:~s(X)).
+";
+
+const COMPOSED_TRACE: &str = "fof(a1,axiom,![X]:?[Y]:(r(X,Y)&s(Y)),file(x,a1)).
+fof(a2,axiom,![X]:~s(X),file(x,a2)).
+cnf(c,plain,s(f(X)),inference(split_conjunct,[status(thm)],[inference(skolemize,[status(esa)],[a1])])).
+cnf(e,plain,$false,inference(r,[status(thm)],[c,a2])).
+";
+
+const COMPOSED_REPORT: &str = "eigen 0 f($any): ?[X0]:(r($any,X0) & s(X0))
+instance 0 step 3.1 clause 1: s(f($any))
+thin 0 a1 + picks R terms $any skolems f($any)
+instance 1 step 3 clause 0: s(f($any))
+instance 2 step 2 clause 0: ~s(f($any))
+thin 2 a2 + picks none terms f($any) skolems none
+instance 3 step 4 clause 0: $false
+weight 9
+";
+
+#[test]
+fn a_composed_image_has_its_thin_tree(rt: HostRuntime) -> Result<(), Fail> {
+    let text = report(&rt, rt.alloc(), COMPOSED_PROBLEM, COMPOSED_TRACE)?;
+    assert_eq!(rt; text.as_slice(), COMPOSED_REPORT.as_bytes());
+    Ok(())
+}
+
+const CARRIED_PROBLEM: &str = "fof(a1,axiom,![X]:((p(X)&?[Y]:r(X,Y))|q)).
+fof(a2,axiom,~q).
+fof(a3,axiom,![X,Y]:~r(X,Y)).
+";
+
+const CARRIED_TRACE: &str = "fof(a1,axiom,![X]:((p(X)&?[Y]:r(X,Y))|q),file(x,a1)).
+fof(a2,axiom,~q,file(x,a2)).
+fof(a3,axiom,![X,Y]:~r(X,Y),file(x,a3)).
+fof(m,plain,![X]:(q|((?[Y]:r(X,Y))&p(X))),inference(f,[status(thm)],[a1])).
+fof(s,plain,![X]:(q|(r(X,f(X))&p(X))),inference(k,[status(esa)],[m])).
+cnf(d,plain,q,inference(r,[status(thm)],[s,a3])).
+cnf(e,plain,$false,inference(r,[status(thm)],[d,a2])).
+";
+
+const CARRIED_REPORT: &str = "eigen 0 f($any): ?[X0]:r($any,X0)
+instance 0 step 5 clause 1: r($any,f($any)) | q
+thin 0 a1 + picks R terms $any skolems f($any)
+instance 1 step 3 clause 0: ~r($any,f($any))
+thin 1 a3 + picks none terms $any, f($any) skolems none
+instance 2 step 6 clause 0: q
+instance 3 step 2 clause 0: ~q
+thin 3 a2 + picks none terms none skolems none
+instance 4 step 7 clause 0: $false
+weight 12
+";
+
+// Clauses of a step that reorders its parent have the numbers that they have in the leaf's form.
+#[test]
+fn a_map_is_carried_through_another_order(rt: HostRuntime) -> Result<(), Fail> {
+    let text = report(&rt, rt.alloc(), CARRIED_PROBLEM, CARRIED_TRACE)?;
+    assert_eq!(rt; text.as_slice(), CARRIED_REPORT.as_bytes());
+    Ok(())
+}

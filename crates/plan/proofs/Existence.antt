@@ -1,5 +1,5 @@
 -- Which steps have maps: a structural or composed step that isn't over a leaf introduces nothing.
-use Rattle.std.proofs.Common.{◌≡◌, ◌<◌, ◌⊎◌, ℕ, zero, suc, Bool, true, false, ◌||◌, List, [], ◌∷◌, ◌++◌, length, map, Option, Some, None, slice_get, refl, sym, ap, ◌∙◌, subst, inl, inr, arith, rules}
+use Rattle.std.proofs.Common.{◌≡◌, ◌⊎◌, ℕ, zero, suc, Bool, true, false, ◌||◌, List, [], ◌∷◌, ◌++◌, length, map, Some, None, slice_get, refl, sym, ap, ◌∙◌, subst, inl, inr, arith, rules}
 use Rattle.std.proofs.lemmas.Option.{slice_get_cases, slice_get_within}
 use Rattle.dk_syntax.specs.declared.formula.Formula.{Formula}
 use Rattle.dk_syntax.specs.declared.symbol.SymKey.{SymKey}
@@ -12,13 +12,12 @@ use Rattle.normal_form.specs.declared.form.Nf.TheVariants as nf
 use Rattle.plan.proofs.StepMaps.{leaf_own, way_map}
 use Rattle.plan.specs.Laws.{AreRightSteps, ComposedIsOverLeaf, IsOverLeaf, LeafGivesComposedMap, LeafGivesMap, StructuralIsOverLeaf}
 use Rattle.plan.specs.Maps.{HasLeaf, HasNoMap, IsComposedMap, IsMap, to_form, to_image}
-use Rattle.step_check.proofs.OneRepresentative.{derived_one, not_both, one_representative, parent_one, same_some, some_or_none}
+use Rattle.step_check.proofs.OneRepresentative.{derived_one, not_both, one_representative, parent_one, some_or_none}
 use Rattle.step_check.proofs.OneVerdict.{one_verdict}
 use Rattle.step_check.proofs.SortedLaws.{representative_is_sorted}
 use Rattle.step_check.specs.Freshness.{freshened, introduced, is_bad}
-use Rattle.step_check.specs.Limits.{full_limit}
-use Rattle.step_check.specs.Representatives.{HasNoShape, HasOneParent, IsDerived, IsFit, IsFullWithin, IsLeaf, IsSame, IsSkolem, IsWithin, leaf, MayCompose, over, over_full, Represents, same, shapeless, skolem, unfit}
-use Rattle.step_check.specs.Steps.{aliens_of, Case, form_of_step, has_existential, own_form, step_in}
+use Rattle.step_check.specs.Representatives.{HasNoShape, HasOneParent, IsDerived, IsFit, IsFullWithin, IsLeaf, IsSkolem, IsWithin, leaf, MayCompose, over, over_full, Represents, same, shapeless, skolem, unfit}
+use Rattle.step_check.specs.Steps.{aliens_of, Case, form_of_step, own_form, step_in}
 use Rattle.step_check.specs.Verdicts as is
 use Rattle.step_check.specs.Verdicts.{HasVerdict, IsClausalVerdict, IsFlaggedVerdict, IsInferenceVerdict, IsOtherVerdict, IsPlainVerdict, IsWithinAll, map_of}
 use Rattle.step_check.specs.declared.verdict.Limit.{Limit}

@@ -10,6 +10,7 @@ pub mod MapAnswers
 pub mod Membership
 mod NodeNames
 pub mod OneAnswer
+pub mod OnePlan
 pub mod OnePull
 pub mod OriginAnswers
 pub mod OriginLaws

@@ -1,18 +1,18 @@
 -- The map of a step by that of its parent, and the maps of all steps one after the other.
-use Rattle.std.proofs.Common.{◌≡◌, ◌≢◌, ◌<◌, ◌≤◌, ◌+◌, ◌-◌, ◌⊎◌, ℕ, zero, suc, nat_lt, Bool, true, false, List, [], ◌∷◌, ◌++◌, Contains, get_or, if◌then◌else◌, length, map, MatchOption, Option, Some, None, set, slice_get, take, refl, sym, ap, ◌∙◌, subst, inl, inr, append-nil, append_assoc, arith}
-use Rattle.std.proofs.lemmas.Bool.{cases_eq, ltb-false}
+use Rattle.std.proofs.Common.{◌≡◌, ◌<◌, ◌≤◌, ◌+◌, ◌-◌, ◌⊎◌, ℕ, zero, suc, nat_lt, Bool, true, false, List, [], ◌∷◌, ◌++◌, Contains, get_or, if◌then◌else◌, length, map, MatchOption, Option, Some, None, set, slice_get, take, refl, sym, ap, ◌∙◌, subst, inl, inr, append-nil, append_assoc, arith}
+use Rattle.std.proofs.lemmas.Bool.{ltb-false}
 use Rattle.std.proofs.lemmas.List.{get_or-set_other, get_or-set_same, get_or_past, length-map, take_all, take_more}
 use Rattle.std.proofs.lemmas.Option.{slice_get-get_or, slice_get_past}
 use Rattle.std.specs.Option.{option_or}
 use Rattle.std.specs.Prelude.{Err, IfOk, Ok, Result}
 use native.Mathlib.Decide.{dec_le}
 use Rattle.derivation_graph.proofs.GraphLaws.{rows_stand}
-use Rattle.derivation_graph.specs.Graphs.{HasParent, HasStepsForParents, IsGraphAnswer, IsStep, names_of, numbers_of}
+use Rattle.derivation_graph.specs.Graphs.{HasParent, HasStepsForParents, IsGraphAnswer, names_of, numbers_of}
 use Rattle.derivation_graph.specs.Orders.{ComeAfter, IsOrderOf, IsReady}
 use Rattle.derivation_graph.specs.declared.graph.Graph.{Graph}
 use Rattle.dk_syntax.specs.declared.Problem.{Problem}
 use Rattle.dk_syntax.specs.declared.formula.Formula.{Formula}
-use Rattle.ground_instances.proofs.StandsLaws.{good, images, judged_of, stands_represents, verdict_at}
+use Rattle.ground_instances.proofs.StandsLaws.{images, judged_of, stands_represents, verdict_at}
 use Rattle.ground_instances.specs.Keys.{Has, image, IsBase, IsLeafVerdict, IsOwnBase, itself, Judged, own, parents_at, sign_of, Stands, through, verdict_in}
 use Rattle.ground_instances.specs.Verdicts.{AreRightVerdicts}
 use Rattle.normal_form.specs.Normal.{nodes_of, normal_of}
@@ -22,10 +22,9 @@ use Rattle.plan.proofs.LeafSymbols.{inference_not}
 use Rattle.plan.proofs.StepMaps.{leaf_own, not_composed, same_verdict}
 use Rattle.plan.specs.Known.{AreKnown, AreParentsKnown, HasFitLeaf, HasNoLeaf, HasOwnMap, is_composed, is_composed_at, IsAbove, IsFormMap, IsLeafForm, LeadsOn, NoneAbove}
 use Rattle.plan.specs.Laws.{AreRightSteps}
-use Rattle.plan.specs.Maps.{AreStepMaps, HasLeaf, HasNoMap, IsMap, IsMapAnswer, IsMapOf, IsStepMap, leaf_of, map_at, to_form, to_image}
+use Rattle.plan.specs.Maps.{AreStepMaps, HasLeaf, HasNoMap, IsMapAnswer, IsMapOf, IsStepMap, leaf_of, map_at, to_form, to_image}
 use Rattle.plan.specs.declared.maps.StepMap.{StepMap}
 use Rattle.step_check.proofs.OneRepresentative.{one_representative, same_item, same_some, some_or_none}
-use Rattle.step_check.specs.Freshness.{is_bad}
 use Rattle.step_check.specs.Limits.{first_limit, form_limit, limit_at, list_limit, nodes_limit}
 use Rattle.step_check.specs.Representatives.{leaf, Represents}
 use Rattle.step_check.specs.Steps.{Case, node_of, nodes_of as nodes_in, own_form, parents_of, step_in}

@@ -1,5 +1,6 @@
 //! Laws of the definitions. The functions' contracts have the laws; the bodies do nothing.
 ghost use Rattle.plan.specs.Laws.{ComposedIsOverLeaf, LeafGivesComposedMap, LeafGivesMap, MapsAreOne, OriginsAreFit, OriginsAreOne, OriginsAreRight, PullAnswersAreOne, StructuralIsOverLeaf, ThinIsOne};
+ghost use Rattle.plan.specs.OnePlan.{PlansAreOne};
 
 /// A step has one map at most, an instance one thin tree, and a trace one list of origins.
 pub fn answers_are_one()
@@ -34,4 +35,9 @@ pub fn origins_are_fit()
 /// weighs too much, or the step of the first instance that is too wide.
 pub fn pull_answers_are_one()
     ensures { PullAnswersAreOne }
+{}
+
+/// A problem and a trace have one plan at most.
+pub fn plans_are_one()
+    ensures { PlansAreOne }
 {}

@@ -1,10 +1,10 @@
 //! The map of each step over a leaf.
 //!
-//! The steps are taken in an order in which each comes after its parents, and the map of each is made
-//! once, from that of its parent. A step's map is a copy of its parent's, or its own, where the other
-//! one is empty. Where both have entries, the leaf's normal form is built again.
-ghost use Rattle.std.specs.Prelude.{◌≡◌, [], None, Some, Ok, IfOk, OnOk, MatchOption, length};
-ghost use Rattle.derivation_graph.specs.Graphs.{IsGraphAnswer, IsStep};
+//! The steps are taken in an order in which each comes after its parents, and the map of each is
+//! made once, from that of its parent. A step's map is a copy of its parent's, or its own, where the
+//! other one is empty. Where both have entries, the leaf's normal form is built again.
+ghost use Rattle.std.specs.Prelude.{◌≡◌, [], None, Some, Ok, IfOk, MatchOption, length};
+ghost use Rattle.derivation_graph.specs.Graphs.{IsGraphAnswer};
 ghost use Rattle.derivation_graph.specs.Orders.{IsOrderOf};
 ghost use Rattle.ground_instances.specs.Keys.{Has, judged_by, verdict_in};
 ghost use Rattle.ground_instances.specs.Verdicts.{AreRightVerdicts};

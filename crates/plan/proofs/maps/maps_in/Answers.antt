@@ -1,4 +1,4 @@
-use Rattle.std.proofs.Common.{◌≡◌, ◌<◌, ◌≤◌, ◌-◌, List, Option, get_or, length, sym, subst, ◌∙◌, arith}
+use Rattle.std.proofs.Common.{◌≤◌, ◌-◌, List, Option, get_or, length, sym, subst, ◌∙◌, arith}
 use Rattle.std.proofs.lemmas.List.{length-set}
 use Rattle.plan.proofs.MapAnswers.{all_known, known_next, none_listed, parents_known, ready_next}
 use Rattle.plan.specs.Known.{AreParentsKnown, case_given, judged_given}

@@ -1,4 +1,4 @@
-use Rattle.std.proofs.Common.{◌≡◌, ℕ, List, Option, length, sym, ap, subst, ◌∙◌}
+use Rattle.std.proofs.Common.{ℕ, List, Option, length, sym, ap, subst, ◌∙◌}
 use Rattle.derivation_graph.specs.Orders.{IsOrderOf}
 use Rattle.ground_instances.specs.Keys.{Judged}
 use Rattle.plan.proofs.MapAnswers.{graph_long, graph_stands, judged_lists, right_steps, same_judged, same_right}

@@ -1,4 +1,4 @@
-use Rattle.std.proofs.Common.{◌≡◌, ap, ◌∙◌, sym, subst}
+use Rattle.std.proofs.Common.{subst}
 use Rattle.std.proofs.lemmas.Result.{IfOk-weaker}
 use Rattle.ground_instances.specs.Keys.{verdict_in}
 use Rattle.plan.specs.Known.{AreIntroduced, judged_given}

@@ -1,4 +1,4 @@
-use Rattle.std.proofs.Common.{◌≡◌, List, map, sym, subst}
+use Rattle.std.proofs.Common.{◌≡◌, List, map, subst}
 use Rattle.std.proofs.lemmas.Result.{IfOk-weaker}
 use Rattle.plan.proofs.Membership.{Among}
 use Rattle.plan.proofs.OriginAnswers.{all_named, introduced_there, origins_are}
@@ -6,7 +6,6 @@ use Rattle.plan.specs.Known.{AreOriginsBy, case_given, judged_given}
 use Rattle.plan.specs.Maps.{IsMapOf}
 use Rattle.plan.specs.Origins.{AreOriginsOf}
 use Rattle.dk_syntax.specs.declared.symbol.SymKey.{SymKey}
-use Rattle.skolem_order.specs.declared.origins.Origin.{Origin}
 use Rattle.step_check.proofs.OneRepresentative.{same_some, some_or_none}
 use Rattle.step_check.specs.Freshness.{introduced}
 use Rattle.step_check.specs.Steps.{step_in}

@@ -1,15 +1,11 @@
 -- Which thin tree an instance has, by its step's map and verdict.
-use Rattle.std.proofs.Common.{◌≡◌, ℕ, Bool, true, false, List, Option, Some, None, slice_get, refl, sym, ap, ◌∙◌, subst, inl, inr, arith}
-use Rattle.std.specs.Option.{MatchOption}
-use Rattle.std.specs.Result.{IfOk}
-use Rattle.expansion.specs.Choices.{thin_tree}
+use Rattle.std.proofs.Common.{◌≡◌, ℕ, true, false, List, Option, Some, None, slice_get, sym, ap, ◌∙◌, subst}
 use Rattle.expansion.specs.declared.thin.Thin.{Thin}
 use Rattle.ground_instances.proofs.StandsLaws.{stands_represents}
 use Rattle.ground_instances.specs.Keys.{Has, Judged}
 use Rattle.ground_instances.specs.declared.instance.Instance.{Instance}
 use Rattle.normal_form.specs.ClauseLists.{clause_rows}
 use Rattle.normal_form.specs.Normal.{normal_of}
-use Rattle.normal_form.specs.declared.clause_list.ClauseRow.{ClauseRow}
 use Rattle.normal_form.specs.declared.form.Nf.{Nf}
 use Rattle.plan.proofs.MapAnswers.{fit_leaf}
 use Rattle.plan.proofs.StepMaps.{not_composed, same_composed, same_verdict}
@@ -17,9 +13,9 @@ use Rattle.plan.specs.Known.{HasFitLeaf, is_composed}
 use Rattle.plan.specs.Laws.{AreRightSteps, judged_of}
 use Rattle.plan.specs.Maps.{HasNoMap, IsComposedMap, IsMap, IsMapOf, IsStepMap, to_form, to_image}
 use Rattle.plan.specs.Thins.{IsThin, IsThinAnswer, of_form, of_image}
-use Rattle.plan.specs.Trees.{IsTreeAnswer, IsTreeAt}
+use Rattle.plan.specs.Trees.{IsTreeAnswer}
 use Rattle.plan.specs.declared.maps.StepMap.{StepMap}
-use Rattle.step_check.proofs.OneRepresentative.{one_representative, same_some}
+use Rattle.step_check.proofs.OneRepresentative.{one_representative}
 use Rattle.step_check.specs.Representatives.{Represents}
 use Rattle.step_check.specs.Steps.{Case, step_in}
 use Rattle.step_check.specs.declared.verdict.Verdict.{Verdict}

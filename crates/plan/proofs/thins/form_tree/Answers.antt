@@ -1,4 +1,4 @@
-use Rattle.std.proofs.Common.{◌∙◌, sym, ap, subst}
+use Rattle.std.proofs.Common.{◌∙◌, sym, subst}
 use Rattle.std.proofs.lemmas.Result.{IfOk-weaker}
 use Rattle.plan.proofs.TreeAnswers.{fit_map, no_form, other_tree}
 use Rattle.plan.proofs.thins.form_tree.Goals as goal

@@ -1,4 +1,4 @@
-use Rattle.std.proofs.Common.{◌∙◌, sym, ap, subst}
+use Rattle.std.proofs.Common.{sym, subst}
 use Rattle.std.proofs.lemmas.Result.{IfOk-weaker}
 use Rattle.plan.proofs.TreeAnswers.{composed_tree, fit_map, no_image}
 use Rattle.plan.proofs.thins.image_tree.Goals as goal

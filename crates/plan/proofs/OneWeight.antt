@@ -1,8 +1,8 @@
 -- Clauses have one weight.
-use Rattle.std.proofs.Common.{◌≡◌, ◌≤◌, ◌+◌, ℕ, zero, suc, List, [], ◌∷◌, length, Some, slice_get, refl, sym, ap, ◌∙◌, subst, inl, inr, arith}
+use Rattle.std.proofs.Common.{◌≡◌, ◌≤◌, ℕ, zero, suc, List, [], ◌∷◌, length, Some, slice_get, refl, sym, ap, ◌∙◌, subst, inl, inr, arith}
 use Rattle.dk_syntax.specs.declared.clause.Literal.{Literal}
 use Rattle.dk_syntax.specs.declared.term.Term.{Term}
-use Rattle.ground_instances.specs.Weights.{AreTermsOf, IsWeight, weight_by}
+use Rattle.ground_instances.specs.Weights.{AreTermsOf, IsWeight}
 use Rattle.plan.proofs.Membership.{Among, among, contained}
 
 -- no element stands at two places

@@ -1,18 +1,17 @@
 -- The terms of a plan's thin trees and ground clauses are ground.
-use Rattle.std.proofs.Common.{◌≡◌, ◌<◌, ◌+◌, ◌&&◌, ℕ, zero, suc, nat_eq, Bool, true, false, List, [], ◌∷◌, ◌++◌, All, cond, get_or, length, map, Option, Some, None, filter_map, refl, sym, ap, ap₂, ◌∙◌, subst, inl, inr, arith}
+use Rattle.std.proofs.Common.{◌≡◌, ◌<◌, ◌+◌, ◌&&◌, ℕ, zero, suc, nat_eq, Bool, true, false, List, [], ◌∷◌, ◌++◌, cond, get_or, length, map, Option, Some, None, filter_map, refl, sym, ap₂, ◌∙◌, subst, inl, inr}
 use Rattle.std.proofs.lemmas.List.Elements.{All-head, All-tail}
 use Rattle.std.specs.List.{flat_map, position}
 use Rattle.dk_syntax.proofs.WellFormedLaws.{closed-Any, closed-App}
-use Rattle.dk_syntax.specs.TermTables.{IsTermTable, term_of}
+use Rattle.dk_syntax.specs.TermTables.{IsTermTable}
 use Rattle.dk_syntax.specs.WellFormed.{all_true, IsGround, term_closed_under}
-use Rattle.dk_syntax.specs.declared.clause.Literal.{Literal}
 use Rattle.dk_syntax.specs.declared.term.Term.{Term}
 use Rattle.dk_syntax.specs.declared.term.Term.TheVariants.{Any, App}
 use Rattle.expansion.specs.Choices.{assigned, Chosen, chosen, skolem_term, term_there, thin_tree}
 use Rattle.expansion.specs.declared.thin.Thin.{Thin}
 use Rattle.ground_instances.specs.Instances.{clauses_in}
 use Rattle.ground_instances.specs.Keys.{Judged}
-use Rattle.ground_instances.specs.Rows.{AreBelow, AreLiteralsBelow, AreRowsBelow, instances_by, IsRowBelow, literal_by, literals_by, terms_by, written}
+use Rattle.ground_instances.specs.Rows.{AreBelow, AreLiteralsBelow, AreRowsBelow, instances_by, IsRowBelow, literals_by, terms_by}
 use Rattle.ground_instances.specs.declared.instance.Instance.{Instance}
 use Rattle.ground_instances.specs.declared.instance.Row.{Row}
 use Rattle.ground_instances.specs.declared.instance.RowLit.{RowLit}
@@ -21,7 +20,7 @@ use Rattle.normal_form.specs.Normal.{normal_of}
 use Rattle.normal_form.specs.declared.clause_list.ClauseRow.{ClauseRow}
 use Rattle.normal_form.specs.declared.form.Nf.{Nf}
 use Rattle.plan.proofs.Membership.{Among, among, among_either}
-use Rattle.plan.specs.Thins.{AreThins, IsThin, IsThinAnswer, of_form, of_image}
+use Rattle.plan.specs.Thins.{AreThins, IsThin, of_form, of_image}
 use Rattle.skolem_order.specs.Order.{AreGround, clause_terms, root_terms, thin_terms}
 use Rattle.step_skolem.specs.declared.map.SkEntry.{SkEntry}
 

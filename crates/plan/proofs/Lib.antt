@@ -1,3 +1,4 @@
+mod BadSteps
 pub mod ChainLaws
 pub mod Counts
 pub mod Existence

@@ -198,7 +198,7 @@ leaf_form_is steps it step form at e other there = e ∙ ap (λ (x : Step). norm
 
 module _ (case : Case) (list : List Verdict) (s : AreRightSteps case list) where
   -- the leaf's form is within the limit
-  fit_leaf : {i : ℕ} {f : Formula} {sign : Bool} → HasLeaf (judged_of case list) i f sign → nodes_of (normal_of f sign) ≤ 100000
+  pub fit_leaf : {i : ℕ} {f : Formula} {sign : Bool} → HasLeaf (judged_of case list) i f sign → nodes_of (normal_of f sign) ≤ 100000
   fit_leaf {i} {f} {sign} l =
       let at = leaf_within case (verdict_at case list s.are s.right l.base l.verdict l.here) l.leaf in
       let stands : Stands (judged_of case list) l.base (normal_of l.step.formula (sign_of l.verdict)) = own l.base l.step l.verdict l.here (leaf_own l.verdict l.leaf) l.stands in

@@ -1,23 +1,19 @@
 -- The answer on the instances of a root is one but for want of memory.
-use Rattle.std.proofs.Common.{◌≡◌, ◌≢◌, ◌<◌, ◌≤◌, ◌⊎◌, ℕ, zero, suc, List, [], ◌∷◌, ◌++◌, map, length, length-append, All, Some, slice_get, Result, Ok, Err, refl, sym, ap, ap₂, ◌∙◌, subst, inl, inr, arith}
+use Rattle.std.proofs.Common.{◌≡◌, ◌≢◌, ◌<◌, ◌⊎◌, ℕ, zero, suc, List, [], ◌∷◌, map, All, Some, slice_get, Result, Ok, Err, refl, sym, ap, ap₂, ◌∙◌, subst, inl, inr, arith}
 use Rattle.std.proofs.lemmas.List.Elements.{All-head, All-tail}
-use Rattle.std.specs.List.{Contains}
 use Rattle.dk_syntax.specs.Terms.{instance}
 use Rattle.dk_syntax.specs.declared.clause.Clause.{Clause}
-use Rattle.dk_syntax.specs.declared.clause.Literal.{Literal}
 use Rattle.dk_syntax.specs.declared.term.Term.{Term}
 use Rattle.ground_instances.proofs.ClauseLaws.{one_clause}
 use Rattle.ground_instances.proofs.OneVisit.{one_needs, one_visit}
 use Rattle.ground_instances.proofs.StandsLaws.{images}
-use Rattle.ground_instances.specs.Instances.{AreInstances, AreNumbers, clauses_in, IsFirstWide, IsInstance, IsOverWeight, IsPullAnswer, IsWide, IsWithinWeight, key_of, keys_of}
+use Rattle.ground_instances.specs.Instances.{AreInstances, AreNumbers, IsFirstWide, IsInstance, IsOverWeight, IsPullAnswer, IsWide, IsWithinWeight, key_of, keys_of}
 use Rattle.ground_instances.specs.Keys.{IsClauseOf, Judged, Key}
 use Rattle.ground_instances.specs.Needs.{Needs, value_in}
-use Rattle.ground_instances.specs.Weights.{AreTermsOf, IsWeight, weight_by}
 use Rattle.ground_instances.specs.declared.instance.Instance.{Instance}
 use Rattle.ground_instances.specs.declared.instance.PullFault.{PullFault}
 use Rattle.ground_instances.specs.declared.instance.PullFault.TheVariants.{Memory, OverWeight, OverWide}
-use Rattle.plan.proofs.Membership.{Among, among, among_either, among_left, among_right, contained}
-use Rattle.plan.proofs.Visited.{AreOnce, one_place, stands_among, visited_once}
+use Rattle.plan.proofs.Visited.{AreOnce, one_place, visited_once}
 use Rattle.plan.specs.Laws.{AreRightSteps, judged_of, PullAnswersAreOne}
 use Rattle.step_check.specs.Steps.{Case}
 use Rattle.step_check.specs.declared.verdict.Verdict.{Verdict}

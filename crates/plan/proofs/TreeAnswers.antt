@@ -1,24 +1,21 @@
 -- Which thin tree an instance has, by its step's map and verdict.
-use Rattle.std.proofs.Common.{◌≡◌, ℕ, Bool, true, false, List, Option, Some, None, slice_get, refl, sym, ap, ◌∙◌, subst, inl, inr, arith}
-use Rattle.std.specs.Option.{MatchOption}
-use Rattle.std.specs.Result.{IfOk}
-use Rattle.expansion.specs.Choices.{thin_tree}
+use Rattle.std.proofs.Common.{◌≡◌, ℕ, true, false, List, Option, Some, None, slice_get, sym, ap, ◌∙◌, subst}
 use Rattle.expansion.specs.declared.thin.Thin.{Thin}
 use Rattle.ground_instances.proofs.StandsLaws.{stands_represents}
 use Rattle.ground_instances.specs.Keys.{Has, Judged}
 use Rattle.ground_instances.specs.declared.instance.Instance.{Instance}
 use Rattle.normal_form.specs.ClauseLists.{clause_rows}
 use Rattle.normal_form.specs.Normal.{normal_of}
-use Rattle.normal_form.specs.declared.clause_list.ClauseRow.{ClauseRow}
 use Rattle.normal_form.specs.declared.form.Nf.{Nf}
+use Rattle.plan.proofs.MapAnswers.{fit_leaf}
 use Rattle.plan.proofs.StepMaps.{not_composed, same_composed, same_verdict}
-use Rattle.plan.specs.Known.{is_composed}
+use Rattle.plan.specs.Known.{HasFitLeaf, is_composed}
 use Rattle.plan.specs.Laws.{AreRightSteps, judged_of}
 use Rattle.plan.specs.Maps.{HasNoMap, IsComposedMap, IsMap, IsMapOf, IsStepMap, to_form, to_image}
 use Rattle.plan.specs.Thins.{IsThin, IsThinAnswer, of_form, of_image}
-use Rattle.plan.specs.Trees.{IsTreeAnswer, IsTreeAt}
+use Rattle.plan.specs.Trees.{IsTreeAnswer}
 use Rattle.plan.specs.declared.maps.StepMap.{StepMap}
-use Rattle.step_check.proofs.OneRepresentative.{one_representative, same_some}
+use Rattle.step_check.proofs.OneRepresentative.{one_representative}
 use Rattle.step_check.specs.Representatives.{Represents}
 use Rattle.step_check.specs.Steps.{Case, step_in}
 use Rattle.step_check.specs.declared.verdict.Verdict.{Verdict}
@@ -129,3 +126,12 @@ module _ (case : Case) (list : List Verdict) (s : AreRightSteps case list) (it :
   other_tree map_here v known h other stage form is represents rep answer found =
       form_answer map_here known.step v represents h other stage (of_other (judged_of case list) it known.step map_here known.maps v h other) rep answer
       (subst (λ x. IsTreeAnswer (clause_rows represents) x map_here it.clause it.terms answer) (is known.step known.stands) found)
+
+map_fits : (case : Case) (list : List Verdict) (s : AreRightSteps case list) (i : ℕ) (step : Step) (map_here : StepMap) → step_in case.steps map_here.leaf ≡ Some step
+    → IsMapOf (judged_of case list) i step.formula map_here.sign map_here.map.entries → HasFitLeaf case.steps map_here
+map_fits case list s i step map_here stands (to_form m) = (step, stands, fit_leaf case list s m.leaf)
+map_fits case list s i step map_here stands (to_image m) = (step, stands, fit_leaf case list s m.leaf)
+
+-- the form of the leaf on which a step stands is within the limit
+pub fit_map : (case : Case) (list : List Verdict) → AreRightSteps case list → (i : ℕ) (map_here : StepMap) → IsStepMap (judged_of case list) i map_here → HasFitLeaf case.steps map_here
+fit_map case list s i map_here known = map_fits case list s i known.step map_here known.stands known.maps

@@ -137,6 +137,17 @@ IsBadFault list (OverWeight weight) = ⊥
 IsBadFault list (OverWide step) = ⊥
 IsBadFault list Memory = Unit {0}
 
+-- the fault tells the step and its verdict, which is bad
+abbrev pub IsFaultOf : ℕ → Verdict → PlanFault → Type 0
+IsFaultOf number found (MissingParent step name) = ⊥
+IsFaultOf number found (Cycle step) = ⊥
+IsFaultOf number found NoRefutation = ⊥
+IsFaultOf number found (Wrong step reason) = (step ≡ number) × (found ≡ verdict.Wrong reason)
+IsFaultOf number found (Over step over) = (step ≡ number) × (found ≡ verdict.Over over)
+IsFaultOf number found (OverWeight weight) = ⊥
+IsFaultOf number found (OverWide step) = ⊥
+IsFaultOf number found Memory = ⊥
+
 -- the fault for that of the instances
 abbrev pub fault_of : PullFault → PlanFault
 fault_of (pull.OverWeight weight) = OverWeight weight

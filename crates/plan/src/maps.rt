@@ -19,7 +19,7 @@ use normal_form::{Nf, NfFault, normal};
 use std::alloc::Global;
 use step_check::{Verdict, Verdicts};
 use step_skolem::{SkMap, chain};
-use tstp_trace::Trace;
+use tstp_trace::{Step, Trace};
 
 /// The leaf on which a step stands and its sign, and the map that leads from the leaf's form to the
 /// form that represents the step; of a composed step, to the image from which its clauses follow.
@@ -93,11 +93,11 @@ fn map_above<'m>(given: &Given<'_>, maps: &'m [Option<StepMap>], number: u32) ->
 }
 
 /// The normal form of the map's leaf, which is within the limit.
-pub fn leaf_form(alloc: Global, given: &Given<'_>, it: &StepMap) -> Result<Nf, NoMemory>
-    requires { HasFitLeaf given.now.steps.now it.now }
-    ensures { IfOk result (λ form. IsLeafForm given.now.steps.now it.now form) }
+pub fn leaf_form(alloc: Global, steps: &[Step], it: &StepMap) -> Result<Nf, NoMemory>
+    requires { HasFitLeaf steps.now it.now }
+    ensures { IfOk result (λ form. IsLeafForm steps.now it.now form) }
 {
-    let Some(step) = step_at(given.steps, it.leaf) else {
+    let Some(step) = step_at(steps, it.leaf) else {
         unreachable!()
     };
     match normal(alloc, it.sign, &step.formula) {
@@ -124,7 +124,7 @@ fn joined_map(
     if first.map.entries.is_empty() {
         return next.copy(alloc);
     }
-    let form = leaf_form(alloc, given, first)?;
+    let form = leaf_form(alloc, given.steps, first)?;
     chain(alloc, &form, &first.map, next)
 }
 

@@ -1,9 +1,9 @@
 //! The plan of a trace, or the first refusal.
-ghost use Rattle.std.specs.Prelude.{◌≡◌, ◌<◌, None, Some, IfOk};
+ghost use Rattle.std.specs.Prelude.{◌≡◌, ◌<◌, true, None, Some, IfOk};
 ghost use Rattle.ground_instances.specs.Keys.{judged_by};
 ghost use Rattle.ground_instances.specs.Verdicts.{AreRightVerdicts};
-ghost use Rattle.plan.specs.Plans.{AreJudged, ArePulled, AreStart, IsBadFault, IsBadStage, IsPlan, IsPlanAnswer, IsPullStage, IsStartStage, IsVerdictStage, judged_in, pull_told};
-ghost use Rattle.step_check.specs.Freshness.{IsFirstBad};
+ghost use Rattle.plan.specs.Plans.{AreJudged, ArePulled, AreStart, IsBadFault, IsBadStage, IsFaultOf, IsPlan, IsPlanAnswer, IsPullStage, IsStartStage, IsVerdictStage, judged_in, pull_told};
+ghost use Rattle.step_check.specs.Freshness.{IsFirstBad, is_bad};
 ghost use Rattle.tstp_trace.specs.Names.{AreDistinct};
 ghost use Rattle.tstp_trace.specs.Traces.{HaveFitParents, names_of};
 
@@ -43,21 +43,37 @@ fn start_of(alloc: Global, problem: &Problem, trace: &Trace) -> Result<Start, Pl
     }
 }
 
+/// The fault of a bad step with that verdict.
+fn fault_of(alloc: Global, step: u32, verdict: &Verdict) -> Result<PlanFault, NoMemory>
+    requires { is_bad verdict.now ≡ true }
+    ensures { IfOk result (λ fault. IsFaultOf step verdict.now fault) }
+{
+    match verdict {
+        Verdict::Wrong(reason) => Ok(PlanFault::Wrong {
+            step,
+            reason: reason.copy(alloc)?,
+        }),
+        Verdict::Over(limit) => Ok(PlanFault::Over {
+            step,
+            limit: *limit,
+        }),
+        Verdict::Leaf => unreachable!(),
+        Verdict::Conjecture => unreachable!(),
+        Verdict::Structural(_) => unreachable!(),
+        Verdict::Clausal(_) => unreachable!(),
+        Verdict::Chained(_) => unreachable!(),
+        Verdict::Composes(_) => unreachable!(),
+    }
+}
+
 /// The fault of the first bad step.
 fn bad_fault(alloc: Global, verdicts: &Verdicts, step: u32) -> Result<PlanFault, NoMemory>
     requires { IsFirstBad verdicts.now.list (Some step) }
     ensures { IfOk result (λ fault. IsBadFault verdicts.now.list fault) }
 {
     match verdict_at(verdicts.list.as_slice(), step) {
-        Some(Verdict::Wrong(reason)) => {
-            let copy = reason.copy(alloc)?;
-            Ok(PlanFault::Wrong { step, reason: copy })
-        }
-        Some(Verdict::Over(limit)) => Ok(PlanFault::Over {
-            step,
-            limit: *limit,
-        }),
-        _ => Err(NoMemory),
+        None => unreachable!(),
+        Some(verdict) => fault_of(alloc, step, verdict),
     }
 }
 

@@ -6,22 +6,19 @@ ghost use Rattle.std.specs.Prelude.{◌≡◌, false, slice_get, IfOk, MatchOpti
 ghost use Rattle.ground_instances.specs.Keys.{Has};
 ghost use Rattle.ground_instances.specs.Lists.{instances_of};
 ghost use Rattle.normal_form.specs.ClauseLists.{clause_rows};
-ghost use Rattle.normal_form.specs.Normal.{normal_of};
 ghost use Rattle.plan.specs.Known.{is_composed};
 ghost use Rattle.plan.specs.Maps.{IsStepMap};
 ghost use Rattle.plan.specs.Thins.{AreThins, IsThinAnswer};
 ghost use Rattle.plan.specs.Trees.{AreSources, IsTreeAnswer, case_in, judged_from};
 ghost use Rattle.step_check.specs.Representatives.{Represents};
-ghost use Rattle.step_check.specs.Steps.{step_in};
-ghost use Rattle.tstp_trace.specs.declared.step.Step.{Step as TraceStep};
 
-use crate::given::{step_at, verdict_at};
-use crate::maps::{StepMap, map_of_step};
+use crate::given::verdict_at;
+use crate::maps::{StepMap, leaf_form, map_of_step};
 use derivation_graph::Graph;
 use dk_syntax::{NoMemory, Problem, Seq};
 use expansion::{Thin, thin_of};
 use ground_instances::{Instance, Instances, instance_at};
-use normal_form::{ClauseFault, ClauseList, ClauseRow, Nf, NfFault, clauses, normal};
+use normal_form::{ClauseFault, ClauseList, ClauseRow, Nf, clauses};
 use std::alloc::Global;
 use step_check::{Verdict, Verdicts, form};
 use step_compose::Composed;
@@ -35,23 +32,6 @@ pub struct Sources<'a> {
     pub graph: &'a Graph,
     pub verdicts: &'a Verdicts,
     pub maps: &'a [Option<StepMap>],
-}
-
-/// The form of the leaf on which a step with that map stands. The verdicts say that it is within its
-/// limit.
-fn leaf_form(alloc: Global, trace: &Trace, it: &StepMap) -> Result<Nf, NoMemory>
-    ensures { IfOk result (λ form. (leaf : TraceStep)
-        → step_in trace.now.steps it.now.leaf ≡ Some leaf
-        → form ≡ normal_of leaf.formula it.now.sign) }
-{
-    let Some(leaf) = step_at(trace.steps.as_slice(), it.leaf) else {
-        return Err(NoMemory);
-    };
-    match normal(alloc, it.sign, &leaf.formula) {
-        Ok(form) => Ok(form),
-        Err(NfFault::TooLarge { nodes: _ }) => Err(NoMemory),
-        Err(NfFault::Memory) => Err(NoMemory),
-    }
 }
 
 /// The row of that number, where there is one.
@@ -125,8 +105,10 @@ fn form_tree(
     }
     let form = form_of_step(alloc, sources, instance.step)?;
     let list = list_of(alloc, &form)?;
-    let leaf = leaf_form(alloc, sources.trace, it)?;
-    tree_at(alloc, list.rows.as_slice(), &leaf, it, instance)
+    let steps = sources.trace.steps.as_slice();
+    let leaf = leaf_form(alloc, steps, it)?;
+    let rows = list.rows.as_slice();
+    tree_at(alloc, rows, &leaf, it, instance)
 }
 
 /// The thin tree of an instance of a composed step's image.
@@ -145,8 +127,10 @@ fn image_tree(
     if instance.stage != 1 {
         return Ok(None);
     }
-    let leaf = leaf_form(alloc, sources.trace, it)?;
-    tree_at(alloc, composed.image.rows.as_slice(), &leaf, it, instance)
+    let steps = sources.trace.steps.as_slice();
+    let leaf = leaf_form(alloc, steps, it)?;
+    let rows = composed.image.rows.as_slice();
+    tree_at(alloc, rows, &leaf, it, instance)
 }
 
 /// What is composed, where the verdict is that of a composed step.

@@ -1,6 +1,4 @@
 use Rattle.std.proofs.Common.{IfOk, filter_map, subst}
-use Rattle.ground_instances.specs.Instances.{clauses_in}
-use Rattle.ground_instances.specs.Lists.{instances_of}
 use Rattle.plan.proofs.ordering.order_of.Goals as goal
 use Rattle.skolem_order.specs.Order.{AreGround, AreNeeded, root_terms}
 

@@ -1,4 +1,4 @@
-use Rattle.std.proofs.Common.{◌∙◌, None, Ok, Err, Some, ap, sym, subst}
+use Rattle.std.proofs.Common.{◌∙◌, Err, ap, sym, subst}
 use Rattle.std.proofs.lemmas.Result.{err_from_is_err_and}
 use Rattle.derivation_graph.specs.Roots.{IsRootAnswer}
 use Rattle.plan.proofs.Refusals.{graph_refused}

@@ -1,4 +1,4 @@
-use Rattle.std.proofs.Common.{[], ◌∷◌, ◌++◌, ◌+◌, ◌≤◌, length, take, arith, sym, subst}
+use Rattle.std.proofs.Common.{◌+◌, ◌≤◌, length, take, arith, sym, subst}
 use Rattle.std.proofs.lemmas.Grind.{common_steps}
 use Rattle.std.proofs.lemmas.List.{take_all}
 use Rattle.ground_instances.specs.Lists.{instances_of}

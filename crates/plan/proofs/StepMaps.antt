@@ -226,7 +226,7 @@ module _ (case : Case) (list : List Verdict) (are : AreVerdicts case list) (righ
         let same : s.0 ≡ i = step_one s.0 i s.2.verdict v x s.2.has has there own_one in
         acyclic i (walk (judged_of case list) one (subst (λ y. IsOnWay (judged_of case list) q y) same s.1))
 
-    source_here : (e : SkEntry) → Among (chained m n) e → Renumbers n e → IsSource (judged_of case list) i f sign e
+    abbrev pub source_here : (e : SkEntry) → Among (chained m n) e → Renumbers n e → IsSource (judged_of case list) i f sign e
     source_here e h r =
         let put : Among (introduced v) e.symbol = subst (λ l. Among l e.symbol) (sym puts) (subst (λ y. Among (names n) y) r.2 (among_name n r.0 r.1)) in
         record { verdict = v; has = has; puts = put; entries = chained m n; maps = maps; there = h; like = subst (λ l. Renumbers l e) (sym mine) r }

@@ -14,16 +14,24 @@
 //! `InstanceTypes` (the types of proof terms). `ConsumerSteps` has the consumer of each kind of formula where it stands.
 #![tactic(auto)]
 
+mod arms;
 mod build;
 mod contradiction;
+mod cursor;
 mod drinkers;
 mod eigenvariables;
+mod ends;
 mod ground;
 mod instance;
 pub mod laws;
+mod occurrence;
 mod outputs;
 mod place;
 mod proof_terms;
+mod spot;
+mod substitution;
+mod tree;
+mod values;
 
 pub use contradiction::contradict;
 pub use drinkers::drinker;

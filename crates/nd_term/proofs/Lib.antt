@@ -12,6 +12,7 @@ pub mod ListLaws
 pub mod OccurrenceSteps
 pub mod OutputSteps
 pub mod OverLaws
+pub mod PartViews
 pub mod PickSteps
 pub mod ReaderArms
 pub mod ReaderSteps

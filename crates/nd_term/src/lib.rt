@@ -28,6 +28,7 @@ mod occurrence;
 mod outputs;
 mod place;
 mod proof_terms;
+mod reader;
 mod spot;
 mod substitution;
 mod tree;

@@ -6,6 +6,7 @@ pub mod ConsumerTypes
 pub mod DrinkerTypes
 pub mod EndSteps
 pub mod FormulaViews
+pub mod HypothesisSteps
 pub mod InstanceTypes
 pub mod LiftSteps
 pub mod ListLaws

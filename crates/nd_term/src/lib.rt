@@ -16,12 +16,14 @@
 
 mod arms;
 mod build;
+mod consumer;
 mod contradiction;
 mod cursor;
 mod drinkers;
 mod eigenvariables;
 mod ends;
 mod ground;
+mod hypothesis;
 mod instance;
 pub mod laws;
 mod occurrence;
@@ -36,5 +38,6 @@ mod values;
 
 pub use contradiction::contradict;
 pub use drinkers::drinker;
+pub use hypothesis::consume;
 pub use instance::resolve_term;
 pub use place::Place;

@@ -10,9 +10,12 @@ pub mod Laws
 pub mod Outputs
 pub mod Places
 pub mod Reading
+pub mod Spots
 pub mod Symbols
+pub mod ThinReading
 pub mod ThinTrees
 pub mod Translation
 pub mod TreeKinds
+pub mod Trees
 pub mod ViewLaws
 pub mod Views

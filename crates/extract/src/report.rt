@@ -83,10 +83,12 @@ fn put_instances(
     ensures { OnOk result (out.new.items ≡ out.old.items
         ++ spec.instances_from steps.now plan.now 0 (instances_of plan.now.instances)) }
 {
-    for place in 0..plan.instances.rows.len() {
-        let number = u32::try_from(place).map_err(|_| NoMemory)?;
+    let Ok(count) = u32::try_from(plan.instances.rows.len()) else {
+        return Err(NoMemory);
+    };
+    for number in 0..count {
         let it = instance_at(alloc, &plan.instances, number)?;
-        put_instance_lines(alloc, out, steps, plan, place as u64, &it)?;
+        put_instance_lines(alloc, out, steps, plan, u64::from(number), &it)?;
     }
     Ok(())
 }

@@ -13,6 +13,7 @@ mod NodeNames
 pub mod OneAnswer
 pub mod OnePlan
 pub mod OnePull
+mod OneWeight
 pub mod OriginAnswers
 pub mod OriginLaws
 mod PlanParts

@@ -13,6 +13,7 @@ use Rattle.expansion.specs.declared.thin.Thin.{Thin}
 use Rattle.ground_instances.specs.Keys.{Judged}
 use Rattle.ground_instances.specs.Instances.{clauses_in, IsPullAnswer}
 use Rattle.ground_instances.specs.Lists.{instances_of}
+use Rattle.ground_instances.specs.Weights.{IsWeight}
 use Rattle.ground_instances.specs.declared.instance.Instance.{Instance}
 use Rattle.ground_instances.specs.declared.instance.PullFault.{PullFault}
 use Rattle.ground_instances.specs.declared.instance.PullFault.TheVariants as pull
@@ -20,6 +21,7 @@ use Rattle.plan.proofs.FitOrigins.{origins_are_fit}
 use Rattle.plan.proofs.Membership.{among}
 use Rattle.plan.proofs.OneAnswer.{origins_are_one, thin_is_one}
 use Rattle.plan.proofs.OnePull.{pull_answers_are_one}
+use Rattle.plan.proofs.OneWeight.{weight_one}
 use Rattle.plan.proofs.OriginLaws.{from_origin}
 use Rattle.plan.proofs.StepMaps.{leaf_place_one, map_one}
 use Rattle.plan.specs.Laws.{AreRightSteps, AreWellFormed, judged_of}
@@ -138,6 +140,10 @@ module _ (problem : Problem) (trace : Trace) (limit : ℕ) (one other : Plan) (h
       (moved (λ judged. IsPullAnswer judged other.root limit (Ok (instances_of other.instances))) k.instances))
       (pull_lacks (instances_of one.instances) (Ok (instances_of one.instances)) refl) (pull_lacks (instances_of other.instances) (Ok (instances_of other.instances)) refl))
 
+  weight_is : one.weight ≡ other.weight
+  weight_is =
+      weight_one (clauses_in (instances_of one.instances)) one.weight other.weight h.weight (subst (λ l. IsWeight (clauses_in l) other.weight) (sym instances_are) k.weight)
+
   thins_are : one.thins ≡ other.thins
   thins_are =
       thins_one case one.verdicts.list right (instances_of one.instances) one.thins other.thins h.thins
@@ -164,6 +170,7 @@ module _ (problem : Problem) (trace : Trace) (limit : ℕ) (one other : Plan) (h
     root = root_is;
     verdicts = verdicts_are;
     instances = instances_are;
+    weight = weight_is;
     maps = maps_one case one.verdicts.list right one.maps other.maps h.maps (moved (λ judged. AreStepMaps judged other.maps) k.maps);
     thins = thins_are;
     origins = origins_are;

@@ -25,6 +25,7 @@ pub record AreAlikePlans (trace : Trace) (one other : Plan) : Type 0 where
   pub root : one.root ≡ other.root
   pub verdicts : one.verdicts.list ≡ other.verdicts.list
   pub instances : instances_of one.instances ≡ instances_of other.instances
+  pub weight : one.weight ≡ other.weight
   pub maps : one.maps ≡ other.maps
   pub thins : one.thins ≡ other.thins
   pub origins : one.origins.list ≡ other.origins.list

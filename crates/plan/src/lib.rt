@@ -10,7 +10,7 @@
 //! has a copy of its leaf's formula and of its step's map.
 //!
 //! An instance's thin tree is made from the clause list of the form that represents its step, which is
-//! built anew for each instance. The terms of thin trees and the ground clauses are written out as
+//! built once for each step. The terms of thin trees and the ground clauses are written out as
 //! trees before the Skolem terms in them are put in order.
 //!
 //! Laws for the crates above stand in `proofs/StepMaps` (one map, and where its entries come from),

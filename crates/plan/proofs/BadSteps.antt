@@ -29,16 +29,14 @@ module _ (list : List Verdict) (step : ℕ) (first : IsFirstBad list (Some step)
   bad_fault_is found h (MissingParent n name) k = absurd k
   bad_fault_is found h (Cycle n) k = absurd k
   bad_fault_is found h NoRefutation k = absurd k
-  bad_fault_is found h (Wrong n reason) (n_is, is) =
-      (
-        subst (λ m. IsFirstBad list (Some m)) (sym n_is) first,
-        subst (λ m. slice_get list (m - 1) ≡ Some (verdict.Wrong reason)) (sym n_is) (at_step list step (verdict.Wrong reason) (h ∙ ap Some is)),
-      )
-  bad_fault_is found h (Over n over) (n_is, is) =
-      (
-        subst (λ m. IsFirstBad list (Some m)) (sym n_is) first,
-        subst (λ m. slice_get list (m - 1) ≡ Some (verdict.Over over)) (sym n_is) (at_step list step (verdict.Over over) (h ∙ ap Some is)),
-      )
+  bad_fault_is found h (Wrong n reason) (n_is, is) = (
+    subst (λ m. IsFirstBad list (Some m)) (sym n_is) first,
+    subst (λ m. slice_get list (m - 1) ≡ Some (verdict.Wrong reason)) (sym n_is) (at_step list step (verdict.Wrong reason) (h ∙ ap Some is)),
+  )
+  bad_fault_is found h (Over n over) (n_is, is) = (
+    subst (λ m. IsFirstBad list (Some m)) (sym n_is) first,
+    subst (λ m. slice_get list (m - 1) ≡ Some (verdict.Over over)) (sym n_is) (at_step list step (verdict.Over over) (h ∙ ap Some is)),
+  )
   bad_fault_is found h (OverWeight weight) k = absurd k
   bad_fault_is found h (OverWide n) k = absurd k
   bad_fault_is found h Memory k = absurd k

@@ -13,8 +13,8 @@ loop-number-preserved c =
     let instances = instances_of c.args.instances.now in
     record {
       thins = subst (AreThins judged (take (c.loop-number.number + 1) instances)) (sym c.in_ok-push.ensures.ok)
-    (thins_more judged instances c.loop-number.number c.in_ok-instance.instance c.loop-number.thins c.in_ok-thin.thin c.in_ok-instance.ensures c.loop-number.invariant.thins
-    c.in_ok-thin.ensures.answer);
+          (thins_more judged instances c.loop-number.number c.in_ok-instance.instance c.loop-number.thins c.in_ok-thin.thin c.in_ok-instance.ensures c.loop-number.invariant.thins
+          c.in_ok-thin.ensures.answer);
       lists = c.in_ok-thin.ensures.lists;
     }
 

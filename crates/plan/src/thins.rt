@@ -1,7 +1,7 @@
 //! The thin trees of instances.
 //!
-//! An instance of a leaf's clause, or of a structural step over a leaf, has a thin tree, and so has one
-//! of the image of a form over a leaf. The others follow from what they need, and have none.
+//! An instance of a leaf's clause, or of a structural step over a leaf, has a thin tree, and so has
+//! one of the image of a form over a leaf. The others follow from what they need, and have none.
 ghost use Rattle.std.specs.Prelude.{◌≡◌, false, nat_eq, slice_get, IfOk, MatchOption, None, OnOk, Some};
 ghost use Rattle.std.specs.HashMap.{get};
 ghost use Rattle.ground_instances.specs.Keys.{Has};
@@ -131,7 +131,8 @@ fn form_tree(
     requires here { Has (judged_from sources.now) instance.now.step verdict.now }
     requires other { is_composed verdict.now ≡ false }
     ensures lists { OnOk result (AreLists (case_in sources.now) lists.new) }
-    ensures answer { IfOk result (λ answer. IsThinAnswer (judged_from sources.now) instance.now answer) }
+    ensures answer { IfOk result (λ answer.
+        IsThinAnswer (judged_from sources.now) instance.now answer) }
 {
     if instance.stage != 0 {
         return Ok(None);
@@ -156,7 +157,8 @@ fn image_tree(
 ) -> Result<Option<Thin>, NoMemory>
     requires sources { AreSources sources.now }
     requires map { IsStepMap (judged_from sources.now) instance.now.step it.now }
-    requires here { Has (judged_from sources.now) instance.now.step (Verdict.Composes composed.now) }
+    requires here { Has (judged_from sources.now) instance.now.step
+        (Verdict.Composes composed.now) }
     ensures { IfOk result (λ answer. IsThinAnswer (judged_from sources.now) instance.now answer) }
 {
     if instance.stage != 1 {
@@ -199,7 +201,8 @@ fn tree_by(
     requires map { IsStepMap (judged_from sources.now) instance.now.step it.now }
     requires here { Has (judged_from sources.now) instance.now.step verdict.now }
     ensures lists { OnOk result (AreLists (case_in sources.now) lists.new) }
-    ensures answer { IfOk result (λ answer. IsThinAnswer (judged_from sources.now) instance.now answer) }
+    ensures answer { IfOk result (λ answer.
+        IsThinAnswer (judged_from sources.now) instance.now answer) }
 {
     match composed_of(verdict) {
         None => form_tree(alloc, sources, lists, it, instance, verdict),
@@ -219,7 +222,8 @@ fn mapped_tree(
     requires lists { AreLists (case_in sources.now) lists.old }
     requires map { IsStepMap (judged_from sources.now) instance.now.step it.now }
     ensures lists { OnOk result (AreLists (case_in sources.now) lists.new) }
-    ensures answer { IfOk result (λ answer. IsThinAnswer (judged_from sources.now) instance.now answer) }
+    ensures answer { IfOk result (λ answer.
+        IsThinAnswer (judged_from sources.now) instance.now answer) }
 {
     match verdict_at(sources.verdicts.list.as_slice(), instance.step) {
         None => Err(NoMemory),
@@ -237,7 +241,8 @@ fn thin_here(
     requires sources { AreSources sources.now }
     requires lists { AreLists (case_in sources.now) lists.old }
     ensures lists { OnOk result (AreLists (case_in sources.now) lists.new) }
-    ensures answer { IfOk result (λ answer. IsThinAnswer (judged_from sources.now) instance.now answer) }
+    ensures answer { IfOk result (λ answer.
+        IsThinAnswer (judged_from sources.now) instance.now answer) }
 {
     match map_of_step(sources.maps, instance.step) {
         None => Ok(None),

@@ -1,5 +1,5 @@
 -- The verdict on the first bad step.
-use Rattle.std.proofs.Common.{◌≡◌, ◌-◌, ◌+◌, ℕ, zero, suc, true, List, None, Some, slice_get, add-one, sym, ap, ◌∙◌, subst, arith}
+use Rattle.std.proofs.Common.{◌≡◌, ◌-◌, ℕ, zero, suc, true, List, None, Some, slice_get, add-one, sym, ap, ◌∙◌, subst, arith}
 use Rattle.ground_instances.specs.Keys.{verdict_in}
 use Rattle.plan.specs.Plans.{IsBadFault, IsFaultOf}
 use Rattle.plan.specs.declared.plan.PlanFault.{PlanFault}

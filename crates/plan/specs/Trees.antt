@@ -1,16 +1,22 @@
 -- What is known while the thin trees of instances are made. Only private contracts cite this.
-use Rattle.std.specs.Prelude.{◌≡◌, ℕ, List, slice_get, Option, Some, None, MatchOption, Ok}
+use Rattle.std.specs.Prelude.{◌≡◌, ℕ, nat_eq, List, slice_get, Option, Some, None, MatchOption, Ok}
+use Rattle.std.specs.HashMap.{get, HashMap}
+use Rattle.std.specs.declared.hash.BuildHasherDefault.{BuildHasherDefault}
+use Rattle.std.specs.declared.hash.FoldHasher.{FoldHasher}
 use Rattle.derivation_graph.specs.Graphs.{IsGraphAnswer}
 use Rattle.dk_syntax.specs.declared.term.Term.{Term}
 use Rattle.expansion.specs.Choices.{thin_tree}
 use Rattle.expansion.specs.declared.thin.Thin.{Thin}
 use Rattle.ground_instances.specs.Keys.{Judged}
+use Rattle.normal_form.specs.ClauseLists.{clause_rows}
+use Rattle.normal_form.specs.declared.clause_list.ClauseList.{ClauseList}
 use Rattle.normal_form.specs.declared.clause_list.ClauseRow.{ClauseRow}
 use Rattle.normal_form.specs.declared.form.Nf.{Nf}
 use Rattle.plan.specs.Laws.{AreRightSteps, judged_of}
 use Rattle.plan.specs.Maps.{AreStepMaps}
 use Rattle.plan.specs.declared.maps.StepMap.{StepMap}
 use Rattle.plan.specs.declared.thins.Sources.{Sources}
+use Rattle.step_check.specs.Representatives.{Represents}
 use Rattle.step_check.specs.Steps.{Case, case_of, nodes_of}
 use Rattle.tstp_trace.specs.Traces.{HaveFitParents}
 
@@ -40,3 +46,10 @@ pub record IsTreeAt (rows : List ClauseRow) (form : Nf) (map_here : StepMap) (nu
 -- the tree of the row of that number, or none where there is no such row
 abbrev pub IsTreeAnswer : List ClauseRow → Nf → StepMap → ℕ → List Term → Option Thin → Type 0
 IsTreeAnswer rows form map_here number terms answer = MatchOption answer (slice_get rows number ≡ None) (IsTreeAt rows form map_here number terms)
+
+-- ---- clause lists
+
+-- what is known by the numbers of steps is the clause list of the form that represents the step
+abbrev pub AreLists : Case → HashMap ℕ ClauseList (BuildHasherDefault FoldHasher) → Type 0
+AreLists case lists =
+    (i : ℕ) (list : ClauseList) → get nat_eq lists i ≡ Some list → (form : Nf) × Represents case i form × (list.rows ≡ clause_rows form)

@@ -9,15 +9,15 @@
 //! The maps of all steps are made in an order in which each step comes after its parents. An origin
 //! has a copy of its leaf's formula and of its step's map.
 //!
-//! An instance's thin tree is made from the clause list of the form that represents its step, which is
-//! built anew for each instance. The terms of thin trees and the ground clauses are written out as
+//! An instance's thin tree is made from the clause list of the form that represents its step, which
+//! is built once for each step. The terms of thin trees and the ground clauses are written out as
 //! trees before the Skolem terms in them are put in order.
 //!
 //! Laws for the crates above stand in `proofs/StepMaps` (one map, and where its entries come from),
 //! `proofs/Existence` (which steps have maps), `proofs/OriginLaws` (the origins are what the order
 //! of Skolem terms rests on), `proofs/FitOrigins` (kinds and arities of their symbols),
-//! `proofs/OneAnswer` (one map, one list of origins, one thin tree), `proofs/OnePull` (the answer on
-//! the instances of a root), `proofs/OnePlan` (one plan) and `proofs/GroundTrees` (terms of thin
+//! `proofs/OneAnswer` (one map, one list of origins, one thin tree), `proofs/OnePull` (the answer
+//! on the instances of a root), `proofs/OnePlan` (one plan) and `proofs/GroundTrees` (terms of thin
 //! trees and of ground clauses are ground).
 #![tactic(auto)]
 

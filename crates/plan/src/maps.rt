@@ -1,8 +1,8 @@
 //! The map of each step over a leaf.
 //!
 //! The steps are taken in an order in which each comes after its parents, and the map of each is
-//! made once, from that of its parent. A step's map is a copy of its parent's, or its own, where the
-//! other one is empty. Where both have entries, the leaf's normal form is built again.
+//! made once, from that of its parent. A step's map is a copy of its parent's, or its own, where
+//! the other one is empty. Where both have entries, the leaf's normal form is built again.
 ghost use Rattle.std.specs.Prelude.{◌≡◌, [], None, Some, Ok, IfOk, MatchOption, length};
 ghost use Rattle.derivation_graph.specs.Graphs.{IsGraphAnswer};
 ghost use Rattle.derivation_graph.specs.Orders.{IsOrderOf};
@@ -236,8 +236,8 @@ fn maps_in(alloc: Global, given: &Given<'_>, list: &[u32]) -> Result<Vec<Option<
     Ok(maps)
 }
 
-/// The map of each step, or none where its base is no leaf, nor that of its parent where the step is
-/// composed.
+/// The map of each step, or none where its base is no leaf, nor that of its parent where the step
+/// is composed.
 pub fn maps_of(
     alloc: Global,
     trace: &Trace,

@@ -204,8 +204,8 @@ fn plan_from(
 }
 
 /// What the proof of a trace's refutation is made from, or the first refusal: a missing parent, a
-/// cycle, no root, the first step that is wrong or over a limit, a weight over the limit, an instance
-/// that is too wide. The steps are judged by so many workers.
+/// cycle, no root, the first step that is wrong or over a limit, a weight over the limit, an
+/// instance that is too wide. The steps are judged by so many workers.
 pub fn make_plan<R: Threads + Sync, G: Gate>(
     rt: &R,
     alloc: Global,

@@ -48,8 +48,8 @@ fn bars(alloc: Global, problem: &Problem, trace: &Trace) -> Result<Seq<bool>, No
     Ok(bars)
 }
 
-/// The root of a trace, where there is one: the first step with the formula `$false` that is no leaf
-/// which names the conjecture.
+/// The root of a trace, where there is one: the first step with the formula `$false` that is no
+/// leaf which names the conjecture.
 pub fn root_in(alloc: Global, problem: &Problem, trace: &Trace) -> Result<Option<u32>, NoMemory>
     ensures { IfOk result (λ root.
         IsRootAnswer (formulas_in trace.now) (barred_in problem.now trace.now) root) }

@@ -1,15 +1,16 @@
 //! The thin trees of instances.
 //!
-//! An instance of a leaf's clause, or of a structural step over a leaf, has a thin tree, and so has one
-//! of the image of a form over a leaf. The others follow from what they need, and have none.
-ghost use Rattle.std.specs.Prelude.{◌≡◌, false, slice_get, IfOk, MatchOption, None, Some};
+//! An instance of a leaf's clause, or of a structural step over a leaf, has a thin tree, and so has
+//! one of the image of a form over a leaf. The others follow from what they need, and have none.
+ghost use Rattle.std.specs.Prelude.{◌≡◌, false, nat_eq, slice_get, IfOk, MatchOption, None, OnOk, Some};
+ghost use Rattle.std.specs.HashMap.{get};
 ghost use Rattle.ground_instances.specs.Keys.{Has};
 ghost use Rattle.ground_instances.specs.Lists.{instances_of};
 ghost use Rattle.normal_form.specs.ClauseLists.{clause_rows};
 ghost use Rattle.plan.specs.Known.{is_composed};
 ghost use Rattle.plan.specs.Maps.{IsStepMap};
 ghost use Rattle.plan.specs.Thins.{AreThins, IsThinAnswer};
-ghost use Rattle.plan.specs.Trees.{AreSources, IsTreeAnswer, case_in, judged_from};
+ghost use Rattle.plan.specs.Trees.{AreLists, AreSources, IsTreeAnswer, case_in, judged_from};
 ghost use Rattle.step_check.specs.Representatives.{Represents};
 
 use crate::given::verdict_at;
@@ -20,6 +21,7 @@ use expansion::{Thin, thin_of};
 use ground_instances::{Instance, Instances, instance_at};
 use normal_form::{ClauseFault, ClauseList, ClauseRow, Nf, clauses};
 use std::alloc::Global;
+use std::collections::HashMap;
 use step_check::{Verdict, Verdicts, form};
 use step_compose::Composed;
 use tstp_trace::Trace;
@@ -86,25 +88,59 @@ fn form_of_step(alloc: Global, sources: &Sources<'_>, step: u32) -> Result<Nf, N
     }
 }
 
+/// Notes the clause list of the form that represents a step, unless it is known.
+fn note_list(
+    alloc: Global,
+    sources: &Sources<'_>,
+    lists: &mut HashMap<u32, ClauseList>,
+    step: u32,
+) -> Result<(), NoMemory>
+    requires sources { AreSources sources.now }
+    requires lists { AreLists (case_in sources.now) lists.old }
+    ensures { OnOk result (AreLists (case_in sources.now) lists.new) }
+{
+    if lists.contains_key(&step) {
+        return Ok(());
+    }
+    let form = form_of_step(alloc, sources, step)?;
+    let list = list_of(alloc, &form)?;
+    lists.insert(step, list)?;
+    Ok(())
+}
+
+/// The clause list that is known of a step.
+fn known_list(lists: &HashMap<u32, ClauseList>, step: u32) -> Option<&ClauseList>
+    ensures { MatchOption result (get nat_eq lists.entry.now step ≡ None)
+        (λ list. get nat_eq lists.entry.now step ≡ Some list.now) }
+{
+    lists.get(&step)
+}
+
 /// The thin tree of an instance of a leaf, or of a structural step over one.
 fn form_tree(
     alloc: Global,
     sources: &Sources<'_>,
+    lists: &mut HashMap<u32, ClauseList>,
     it: &StepMap,
     instance: &Instance,
     verdict: &Verdict,
 ) -> Result<Option<Thin>, NoMemory>
     requires sources { AreSources sources.now }
+    requires lists { AreLists (case_in sources.now) lists.old }
     requires map { IsStepMap (judged_from sources.now) instance.now.step it.now }
     requires here { Has (judged_from sources.now) instance.now.step verdict.now }
     requires other { is_composed verdict.now ≡ false }
-    ensures { IfOk result (λ answer. IsThinAnswer (judged_from sources.now) instance.now answer) }
+    ensures lists { OnOk result (AreLists (case_in sources.now) lists.new) }
+    ensures answer { IfOk result (λ answer.
+        IsThinAnswer (judged_from sources.now) instance.now answer) }
 {
     if instance.stage != 0 {
         return Ok(None);
     }
-    let form = form_of_step(alloc, sources, instance.step)?;
-    let list = list_of(alloc, &form)?;
+    note_list(alloc, sources, lists, instance.step)?;
+    let Some(list) = known_list(lists, instance.step) else {
+        return Err(NoMemory);
+    };
     let steps = sources.trace.steps.as_slice();
     let leaf = leaf_form(alloc, steps, it)?;
     let rows = list.rows.as_slice();
@@ -121,7 +157,8 @@ fn image_tree(
 ) -> Result<Option<Thin>, NoMemory>
     requires sources { AreSources sources.now }
     requires map { IsStepMap (judged_from sources.now) instance.now.step it.now }
-    requires here { Has (judged_from sources.now) instance.now.step (Verdict.Composes composed.now) }
+    requires here { Has (judged_from sources.now) instance.now.step
+        (Verdict.Composes composed.now) }
     ensures { IfOk result (λ answer. IsThinAnswer (judged_from sources.now) instance.now answer) }
 {
     if instance.stage != 1 {
@@ -154,17 +191,21 @@ fn composed_of(verdict: &Verdict) -> Option<&Composed>
 fn tree_by(
     alloc: Global,
     sources: &Sources<'_>,
+    lists: &mut HashMap<u32, ClauseList>,
     it: &StepMap,
     instance: &Instance,
     verdict: &Verdict,
 ) -> Result<Option<Thin>, NoMemory>
     requires sources { AreSources sources.now }
+    requires lists { AreLists (case_in sources.now) lists.old }
     requires map { IsStepMap (judged_from sources.now) instance.now.step it.now }
     requires here { Has (judged_from sources.now) instance.now.step verdict.now }
-    ensures { IfOk result (λ answer. IsThinAnswer (judged_from sources.now) instance.now answer) }
+    ensures lists { OnOk result (AreLists (case_in sources.now) lists.new) }
+    ensures answer { IfOk result (λ answer.
+        IsThinAnswer (judged_from sources.now) instance.now answer) }
 {
     match composed_of(verdict) {
-        None => form_tree(alloc, sources, it, instance, verdict),
+        None => form_tree(alloc, sources, lists, it, instance, verdict),
         Some(composed) => image_tree(alloc, sources, it, instance, composed),
     }
 }
@@ -173,16 +214,20 @@ fn tree_by(
 fn mapped_tree(
     alloc: Global,
     sources: &Sources<'_>,
+    lists: &mut HashMap<u32, ClauseList>,
     it: &StepMap,
     instance: &Instance,
 ) -> Result<Option<Thin>, NoMemory>
     requires sources { AreSources sources.now }
+    requires lists { AreLists (case_in sources.now) lists.old }
     requires map { IsStepMap (judged_from sources.now) instance.now.step it.now }
-    ensures { IfOk result (λ answer. IsThinAnswer (judged_from sources.now) instance.now answer) }
+    ensures lists { OnOk result (AreLists (case_in sources.now) lists.new) }
+    ensures answer { IfOk result (λ answer.
+        IsThinAnswer (judged_from sources.now) instance.now answer) }
 {
     match verdict_at(sources.verdicts.list.as_slice(), instance.step) {
         None => Err(NoMemory),
-        Some(verdict) => tree_by(alloc, sources, it, instance, verdict),
+        Some(verdict) => tree_by(alloc, sources, lists, it, instance, verdict),
     }
 }
 
@@ -190,14 +235,18 @@ fn mapped_tree(
 fn thin_here(
     alloc: Global,
     sources: &Sources<'_>,
+    lists: &mut HashMap<u32, ClauseList>,
     instance: &Instance,
 ) -> Result<Option<Thin>, NoMemory>
-    requires { AreSources sources.now }
-    ensures { IfOk result (λ answer. IsThinAnswer (judged_from sources.now) instance.now answer) }
+    requires sources { AreSources sources.now }
+    requires lists { AreLists (case_in sources.now) lists.old }
+    ensures lists { OnOk result (AreLists (case_in sources.now) lists.new) }
+    ensures answer { IfOk result (λ answer.
+        IsThinAnswer (judged_from sources.now) instance.now answer) }
 {
     match map_of_step(sources.maps, instance.step) {
         None => Ok(None),
-        Some(it) => mapped_tree(alloc, sources, it, instance),
+        Some(it) => mapped_tree(alloc, sources, lists, it, instance),
     }
 }
 
@@ -214,10 +263,11 @@ pub fn thins_of(
     let Ok(count) = u32::try_from(instances.rows.len()) else {
         return Err(NoMemory);
     };
+    let mut lists = HashMap::new(alloc);
     let mut thins = Seq::new(alloc);
     for number in 0..count {
         let instance = instance_at(alloc, instances, number)?;
-        let thin = thin_here(alloc, sources, &instance)?;
+        let thin = thin_here(alloc, sources, &mut lists, &instance)?;
         thins.push(thin)?;
     }
     Ok(thins)

@@ -126,7 +126,7 @@ module _ (case : Case) where
   other_not i true esa v h l = flagged_not h l
   other_not i false true v h l = flagged_not h l
 
-  inference_not : {i : ℕ} {cth esa : Bool} {v : Verdict} → IsInferenceVerdict case i cth esa v → IsLeafVerdict v → ⊥
+  pub inference_not : {i : ℕ} {cth esa : Bool} {v : Verdict} → IsInferenceVerdict case i cth esa v → IsLeafVerdict v → ⊥
   inference_not (is.conjecture_parent c h) l = l
   inference_not (is.not_conjecture c h) l = l
   inference_not (is.same q fit one like) l = l

@@ -13,7 +13,7 @@ use Rattle.plan.proofs.ChainLaws.{comes, count_chained, Renumbers}
 use Rattle.plan.proofs.Counts.{among_name, count, found, named_among, names}
 use Rattle.plan.proofs.FreshLists.{AreGood, once_all, part_counted, place_one, same_list, unknown_all}
 use Rattle.plan.proofs.Membership.{Among, contained}
-use Rattle.plan.specs.Maps.{HasLeaf, IsComposedMap, IsMap, IsMapOf, to_form, to_image}
+use Rattle.plan.specs.Maps.{HasLeaf, IsComposedMap, IsMap, IsMapOf, leaf_of, to_form, to_image}
 use Rattle.step_check.proofs.OneRepresentative.{one_representative, same_item, same_some}
 use Rattle.step_check.specs.Freshness.{AreVerdicts, freshened, introduced, introduced_by, is_bad, IsFirstBad}
 use Rattle.step_check.specs.Steps.{Case, stands_in, step_in}
@@ -32,7 +32,7 @@ use Rattle.tstp_trace.specs.declared.step.Step.{Step}
 
 -- ---- one base and one leaf
 
-leaf_own : (v : Verdict) → IsLeafVerdict v → IsOwnBase v
+pub leaf_own : (v : Verdict) → IsLeafVerdict v → IsOwnBase v
 leaf_own Leaf h = tt
 leaf_own Conjecture h = tt
 leaf_own (Structural m) h = absurd h
@@ -83,12 +83,22 @@ module _ (judged : Judged) where
       let k : a.step ≡ b.step = same_some (step_in judged.steps b.base) a.step b.step (subst (λ x. step_in judged.steps x ≡ Some a.step) at a.stands) b.stands in
       (sym a.formula ∙ ap (λ (x : Step). x.formula) k ∙ b.formula, sym a.signed ∙ ap sign_of v ∙ b.signed)
 
-  not_composed : {i : ℕ} {f : Formula} {s : Bool} (c : Composed) → Has judged i (Composes c) → HasLeaf judged i f s → ⊥
+  -- a composed step has no leaf for a base
+  pub not_composed : {i : ℕ} {f : Formula} {s : Bool} (c : Composed) → Has judged i (Composes c) → HasLeaf judged i f s → ⊥
   not_composed {i} c h leaf = by_base leaf.from h leaf.here leaf.leaf
     where
       by_base : {i b : ℕ} {v : Verdict} → IsBase judged i b → Has judged i (Composes c) → Has judged b v → IsLeafVerdict v → ⊥
       by_base {v = v} (itself i w k o) h at l = composed_not c v (same_verdict i (Composes c) v h at) l
       by_base (through i q b m k one up) h at l = composed_structural c m (same_verdict i (Composes c) (Structural m) h k)
+
+  -- and one leaf at one place
+  pub leaf_place_one : {i : ℕ} {f g : Formula} {s t : Bool} {m n : List SkEntry} (a : IsMapOf judged i f s m) (b : IsMapOf judged i g t n) → leaf_of judged a ≡ leaf_of judged b
+  leaf_place_one (to_form a) (to_form b) = base_one a.leaf.from b.leaf.from
+  leaf_place_one (to_form a) (to_image b) = absurd (not_composed b.composed b.here a.leaf)
+  leaf_place_one (to_image a) (to_form b) = absurd (not_composed a.composed a.here b.leaf)
+  leaf_place_one {i} (to_image a) (to_image b) =
+      let at : a.parent ≡ b.parent = same_item (parents_at judged i) a.parent b.parent a.one b.one in
+      base_one (subst (λ x. IsBase judged x a.leaf.base) at a.leaf.from) b.leaf.from
 
   -- ---- the way to the base
 

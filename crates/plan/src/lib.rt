@@ -4,16 +4,37 @@
 //! (`specs/Maps`). The thin tree of an instance goes through the leaf's form by this map
 //! (`specs/Thins`), and the origin of a symbol keeps the map of the step that introduces it
 //! (`specs/Origins`). A plan has both beside the instances and the Skolem terms that they need
-//! (`specs/Plans`).
+//! (`specs/Plans`). `make_plan` answers the plan of a trace, or the first refusal.
+//!
+//! An instance's thin tree is made from the clause list of the form that represents its step, which is
+//! built anew for each instance. The terms of thin trees and the ground clauses are written out as
+//! trees before the Skolem terms in them are put in order.
 //!
 //! Laws for the crates above stand in `proofs/StepMaps` (one map, and where its entries come from),
 //! `proofs/OriginLaws` (the origins are what the order of Skolem terms rests on),
-//! `proofs/FitOrigins` (kinds and arities of their symbols) and `proofs/OneAnswer` (one map, one
-//! list of origins, one thin tree).
+//! `proofs/FitOrigins` (kinds and arities of their symbols), `proofs/OneAnswer` (one map, one
+//! list of origins, one thin tree), `proofs/OnePull` (the answer on the instances of a root) and
+//! `proofs/GroundTrees` (terms of thin trees and of ground clauses are ground).
 #![tactic(auto)]
 
+mod given;
+mod graph;
 mod laws;
+mod maps;
+mod ordering;
+mod origins;
 mod plan;
+mod planning;
+mod root;
+mod thins;
 
-pub use laws::{answers_are_one, origins_are_fit, origins_are_right};
+pub use graph::graph_in;
+pub use laws::{
+    answers_are_one, maps_are_over_leaves, origins_are_fit, origins_are_right, pull_answers_are_one,
+};
+pub use maps::{StepMap, map_of_step, maps_of};
+pub use origins::origins_of;
 pub use plan::{Plan, PlanFault};
+pub use planning::{Start, make_plan};
+pub use root::root_in;
+pub use thins::{Sources, thins_of};

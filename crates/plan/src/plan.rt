@@ -1,6 +1,7 @@
 //! Plans, and why there is none.
+use crate::maps::StepMap;
 use derivation_graph::Graph;
-use dk_syntax::{Name, Seq, Term};
+use dk_syntax::{Name, NoMemory, Seq, Term};
 use expansion::Thin;
 use ground_instances::Instances;
 use skolem_order::Origins;
@@ -14,6 +15,10 @@ pub struct Plan {
     pub root: u32,
     pub verdicts: Verdicts,
     pub instances: Instances,
+    /// What the instances weigh.
+    pub weight: u64,
+    /// The map of each step that has one.
+    pub maps: Seq<Option<StepMap>>,
     /// The thin tree of each instance that has one.
     pub thins: Seq<Option<Thin>>,
     pub origins: Origins,
@@ -38,4 +43,15 @@ pub enum PlanFault {
     /// The first instance with a tree weight above 1,000,000 is of that step.
     OverWide { step: u32 },
     Memory,
+}
+
+impl From<NoMemory> for PlanFault {
+    ghost use Rattle.std.specs.Prelude.{◌≡◌};
+    ghost use Rattle.plan.specs.declared.plan.PlanFault.TheVariants.{Memory};
+
+    ghost from_gives = { λ _ fault. fault ≡ Memory };
+
+    fn from(_: NoMemory) -> PlanFault {
+        PlanFault::Memory
+    }
 }

@@ -1,12 +1,22 @@
 -- The report on the expansion of a refutation: its Skolem terms, its instances with their thin trees, and their weight.
-use Rattle.std.specs.Prelude.{ℕ, zero, suc, Bool, true, false, List, [], ◌∷◌, ◌++◌, map, codes, decimal, Option, None, Some, if◌then◌else◌}
+use Rattle.std.specs.Prelude.{ℕ, zero, suc, ◌-◌, Bool, true, false, List, [], ◌∷◌, ◌++◌, map, slice_get, codes, decimal, Option, None, Some, if◌then◌else◌}
 use Rattle.std.specs.List.{join_by}
 use Rattle.dk_syntax.specs.declared.Literal.{Literal}
+use Rattle.dk_syntax.specs.declared.Name.{Name}
 use Rattle.dk_syntax.specs.declared.Term.{Term}
-use Rattle.extract.specs.declared.report.Eigenvariable.{Eigenvariable}
-use Rattle.extract.specs.declared.report.ReportedInstance.{ReportedInstance}
-use Rattle.extract.specs.declared.report.ReportedTree.{ReportedTree}
+use Rattle.expansion.specs.declared.thin.Thin.{Thin}
+use Rattle.ground_instances.specs.Lists.{instances_of}
+use Rattle.ground_instances.specs.declared.instance.Instance.{Instance}
+use Rattle.plan.specs.declared.maps.StepMap.{StepMap}
+use Rattle.plan.specs.declared.plan.Plan.{Plan}
+use Rattle.skolem_order.specs.Origins.{origin_formula}
+use Rattle.skolem_order.specs.declared.origins.Origin.{Origin}
+use Rattle.skolem_order.specs.declared.origins.Signed.{Signed}
+use Rattle.step_check.specs.Steps.{step_in}
 use Rattle.tptp_text.specs.Printed.{printed_formula, printed_item_name, printed_literal, printed_term, sign_text}
+use Rattle.tstp_trace.specs.declared.step.Step.{Step}
+use Rattle.tstp_trace.specs.declared.step.StepSource.{StepSource}
+use Rattle.tstp_trace.specs.declared.step.StepSource.TheVariants.{Leaf, Derived}
 
 -- ---- parts of lines
 
@@ -44,49 +54,74 @@ stage_text (suc before) = codes "." ++ decimal (suc before)
 
 -- ---- lines
 
--- `eigen PLACE TERM: FORMULA`
-abbrev pub eigen_text : ℕ → Eigenvariable → List ℕ
-eigen_text place eigen =
-    codes "eigen " ++ decimal place ++ codes " " ++ printed_term eigen.term 0 ++ codes ": " ++ sign_text eigen.positive ++ printed_formula eigen.formula 0
+-- `eigen PLACE TERM: FORMULA`, with the term's origin formula
+abbrev pub eigen_text : ℕ → Term → Signed → List ℕ
+eigen_text place term origin =
+    codes "eigen " ++ decimal place ++ codes " " ++ printed_term term 0 ++ codes ": " ++ sign_text origin.positive ++ printed_formula origin.formula 0
     ++ codes "\n"
 
 -- `instance PLACE step STEP.STAGE clause CLAUSE: LITERALS`
-abbrev pub instance_text : ℕ → ReportedInstance → List ℕ
-instance_text place one =
-    codes "instance " ++ decimal place ++ codes " step " ++ decimal one.step ++ stage_text one.stage ++ codes " clause " ++ decimal one.clause
-    ++ codes ": " ++ clause_text one.literals ++ codes "\n"
+abbrev pub instance_text : ℕ → Instance → List ℕ
+instance_text place it =
+    codes "instance " ++ decimal place ++ codes " step " ++ decimal it.step ++ stage_text it.stage ++ codes " clause " ++ decimal it.clause
+    ++ codes ": " ++ clause_text it.lits ++ codes "\n"
 
--- `thin PLACE NAME SIGN picks SIDES terms TERMS skolems TERMS`
-abbrev pub thin_text : ℕ → ReportedTree → List ℕ
-thin_text place tree =
-    codes "thin " ++ decimal place ++ codes " " ++ printed_item_name tree.name ++ codes " " ++ mark_of_sign tree.thin.sign ++ codes " picks " ++ sides_text tree.thin.picks
-    ++ codes " terms " ++ terms_text tree.thin.terms ++ codes " skolems " ++ terms_text tree.thin.skolems ++ codes "\n"
+-- `thin PLACE NAME SIGN picks SIDES terms TERMS skolems TERMS`, with the name of the item that the tree leads through
+abbrev pub thin_text : ℕ → Name → Thin → List ℕ
+thin_text place name thin =
+    codes "thin " ++ decimal place ++ codes " " ++ printed_item_name name ++ codes " " ++ mark_of_sign thin.sign ++ codes " picks " ++ sides_text thin.picks
+    ++ codes " terms " ++ terms_text thin.terms ++ codes " skolems " ++ terms_text thin.skolems ++ codes "\n"
 
--- the line of the thin tree, where there is one
-abbrev pub tree_text : ℕ → Option ReportedTree → List ℕ
-tree_text place None = []
-tree_text place (Some tree) = thin_text place tree
-
--- the line of an instance and that of its thin tree
-abbrev pub instance_lines : ℕ → ReportedInstance → List ℕ
-instance_lines place one = instance_text place one ++ tree_text place one.tree
+-- the line of the thin tree, where there are a tree and an item
+abbrev pub tree_text : ℕ → Option Name → Option Thin → List ℕ
+tree_text place None thin = []
+tree_text place (Some name) None = []
+tree_text place (Some name) (Some thin) = thin_text place name thin
 
 -- `weight WEIGHT`
 abbrev pub weight_text : ℕ → List ℕ
 weight_text weight = codes "weight " ++ decimal weight ++ codes "\n"
 
+-- ---- leaves
+
+-- the problem's item that a leaf names
+abbrev pub item_named : StepSource → Option Name
+item_named (Leaf name) = Some name
+item_named (Derived cth esa parents) = None
+
+abbrev pub item_of : Option Step → Option Name
+item_of None = None
+item_of (Some step) = item_named step.source
+
+-- the item that the leaf under a step names
+abbrev pub item_under : List Step → Option (Option StepMap) → Option Name
+item_under steps None = None
+item_under steps (Some None) = None
+item_under steps (Some (Some it)) = item_of (step_in steps it.leaf)
+
+-- the tree of an instance, where there is one
+abbrev pub tree_in : Option (Option Thin) → Option Thin
+tree_in None = None
+tree_in (Some thin) = thin
+
 -- ---- the report
 
--- the lines of eigenvariables in order, the first of which has that place
-abbrev pub eigens_from : ℕ → List Eigenvariable → List ℕ
-eigens_from place [] = []
-eigens_from place (eigen ∷ eigens) = eigen_text place eigen ++ eigens_from (suc place) eigens
+-- the lines of these needed terms in order, the first of which has that place
+abbrev pub eigens_from : List Origin → ℕ → List Term → List ℕ
+eigens_from origins place [] = []
+eigens_from origins place (term ∷ terms) = eigen_text place term (origin_formula origins term) ++ eigens_from origins (suc place) terms
 
--- the lines of instances in order, the first of which has that place
-abbrev pub instances_from : ℕ → List ReportedInstance → List ℕ
-instances_from place [] = []
-instances_from place (one ∷ instances) = instance_lines place one ++ instances_from (suc place) instances
+module _ (steps : List Step) (plan : Plan) where
+  -- the line of the instance at a place and that of its thin tree
+  abbrev pub instance_lines : ℕ → Instance → List ℕ
+  instance_lines place it =
+      instance_text place it ++ tree_text place (item_under steps (slice_get plan.maps (it.step - 1))) (tree_in (slice_get plan.thins place))
 
--- the whole report; places count from 0
-abbrev pub report_text : List Eigenvariable → List ReportedInstance → ℕ → List ℕ
-report_text eigens instances weight = eigens_from 0 eigens ++ instances_from 0 instances ++ weight_text weight
+  -- the lines of these instances in order, the first of which has that place
+  abbrev pub instances_from : ℕ → List Instance → List ℕ
+  instances_from place [] = []
+  instances_from place (it ∷ instances) = instance_lines place it ++ instances_from (suc place) instances
+
+  -- the whole report; places count from 0
+  abbrev pub report_text : List ℕ
+  report_text = eigens_from plan.origins.list 0 plan.order ++ instances_from 0 (instances_of plan.instances) ++ weight_text plan.weight

@@ -5,8 +5,10 @@ ghost use Rattle.extract.specs.ExpansionReport as spec;
 ghost use Rattle.tptp_text.specs.Printed.{printed_formula, printed_literal, printed_term, sign_text};
 
 use crate::bytes::{put, put_item_name, put_number};
-use crate::report::{Eigenvariable, ReportedInstance, ReportedTree};
-use dk_syntax::{Formula, Literal, NoMemory, Term};
+use dk_syntax::{Formula, Literal, Name, NoMemory, Term};
+use expansion::Thin;
+use ground_instances::Instance;
+use skolem_order::Signed;
 use std::alloc::Global;
 use tptp_text::{formula_text, literal_text, term_text};
 
@@ -116,34 +118,38 @@ fn put_sign(out: &mut Vec<u8>, positive: bool) -> Result<(), NoMemory>
     if positive { Ok(()) } else { put(out, "~") }
 }
 
-/// The line of the eigenvariable at a place.
+/// The line of the needed term at a place.
 pub fn put_eigen(
     alloc: Global,
     out: &mut Vec<u8>,
     place: u64,
-    eigen: &Eigenvariable,
+    term: &Term,
+    origin: &Signed,
 ) -> Result<(), NoMemory>
-    ensures { OnOk result (out.new.items ≡ out.old.items ++ spec.eigen_text place eigen.now) }
+    ensures { OnOk result (out.new.items ≡ out.old.items
+        ++ spec.eigen_text place term.now origin.now) }
 {
     put(out, "eigen ")?;
     put_number(out, place)?;
     put(out, " ")?;
-    put_term(alloc, out, &eigen.term)?;
+    put_term(alloc, out, term)?;
     put(out, ": ")?;
-    put_sign(out, eigen.positive)?;
-    put_formula(alloc, out, &eigen.formula)?;
+    put_sign(out, origin.positive)?;
+    put_formula(alloc, out, &origin.formula)?;
     put(out, "\n")
 }
 
-fn put_thin(
+/// The line of a thin tree.
+pub fn put_thin(
     alloc: Global,
     out: &mut Vec<u8>,
     place: u64,
-    tree: &ReportedTree,
+    name: &Name,
+    thin: &Thin,
 ) -> Result<(), NoMemory>
-    ensures { OnOk result (out.new.items ≡ out.old.items ++ spec.thin_text place tree.now) }
+    ensures { OnOk result (out.new.items ≡ out.old.items
+        ++ spec.thin_text place name.now thin.now) }
 {
-    let ReportedTree { name, thin } = tree;
     put(out, "thin ")?;
     put_number(out, place)?;
     put(out, " ")?;
@@ -159,42 +165,25 @@ fn put_thin(
     put(out, "\n")
 }
 
-fn put_instance(
+/// The line of the instance at a place.
+pub fn put_instance(
     alloc: Global,
     out: &mut Vec<u8>,
     place: u64,
-    instance: &ReportedInstance,
+    it: &Instance,
 ) -> Result<(), NoMemory>
-    ensures { OnOk result (out.new.items ≡ out.old.items
-        ++ spec.instance_text place instance.now) }
+    ensures { OnOk result (out.new.items ≡ out.old.items ++ spec.instance_text place it.now) }
 {
     put(out, "instance ")?;
     put_number(out, place)?;
     put(out, " step ")?;
-    put_number(out, u64::from(instance.step))?;
-    put_stage(out, instance.stage)?;
+    put_number(out, u64::from(it.step))?;
+    put_stage(out, it.stage)?;
     put(out, " clause ")?;
-    put_number(out, u64::from(instance.clause))?;
+    put_number(out, u64::from(it.clause))?;
     put(out, ": ")?;
-    put_clause(alloc, out, instance.literals.as_slice())?;
+    put_clause(alloc, out, it.lits.as_slice())?;
     put(out, "\n")
-}
-
-/// The line of the instance at a place, and that of its thin tree, where it has one.
-pub fn put_instance_lines(
-    alloc: Global,
-    out: &mut Vec<u8>,
-    place: u64,
-    instance: &ReportedInstance,
-) -> Result<(), NoMemory>
-    ensures { OnOk result (out.new.items ≡ out.old.items
-        ++ spec.instance_lines place instance.now) }
-{
-    put_instance(alloc, out, place, instance)?;
-    match &instance.tree {
-        None => Ok(()),
-        Some(tree) => put_thin(alloc, out, place, tree),
-    }
 }
 
 /// The line of the weight.

@@ -1,13 +1,14 @@
 -- What follows from an answer that was delivered.
-use Rattle.std.proofs.Common.{◌≡◌, ◌≢◌, ℕ, ◌<◌, ◌⊎◌, List, Ok, Err, None, Some, IfErr, IfSome, inl, inr, refl, sym, ◌∙◌, ap, subst, arith}
+use Rattle.std.proofs.Common.{◌≡◌, ◌≢◌, ℕ, Bool, true, ◌<◌, ◌⊎◌, List, Ok, Err, None, Some, IfErr, IfSome, inl, inr, refl, sym, ◌∙◌, ap, subst, arith}
 use Rattle.std.specs.declared.option.Option.{Option}
 use Rattle.std.specs.declared.result.Result.{Result}
 use Rattle.dk_io.specs.Causes.{Rose}
 use Rattle.dk_io.specs.Outside.{Told}
-use Rattle.dk_cli.specs.Answer.{Answers, AnswersCommand, IsMemory, IsOfDevelopment, IsOfTrace, IsReadFault, IsToldOutcome, LacksFile, Refuses}
-use Rattle.dk_cli.specs.Commands.{Command, Names, check, convert, extract, steps}
+use Rattle.dk_cli.specs.Answer.{Answers, AnswersCommand, IsFixed, IsMemory, IsOfDevelopment, IsOfTrace, IsReadFault, IsToldOutcome, LacksFile, Refuses}
+use Rattle.words.specs.Commands.{Names, Text}
+use Rattle.dk_cli.specs.Commands.{AskAlike, Command, asked_of, check, convert, extract, help, steps}
 use Rattle.dk_cli.specs.Delivery.{Change, Delivers, IsNoted, IsRefused, IsUntouched}
-use Rattle.dk_cli.specs.Headline.{CanCome, CarriesOutEach, DoesOutcome, IsCarriedOut, IsDone, Lacks, NotesByStatus, WritesByStatus}
+use Rattle.dk_cli.specs.Headline.{CanCome, CarriesOutEach, DoesOutcome, IsCarriedOut, IsDone, Lacks, NotesByStatus, RefusesWords, WritesByStatus, WritesUsage}
 use Rattle.dk_cli.specs.Refusals.{line_of, status_of, HasNumber}
 use Rattle.dk_cli.specs.declared.refusal.Refusal.{Refusal}
 use Rattle.dk_cli.specs.declared.refusal.Refusal.TheVariants.{Words, ReadFault, TooLong, TooDeep, NotLp, NotTyped, Step, WriteFault, Memory}
@@ -15,6 +16,7 @@ use Rattle.dk_cli.specs.declared.refusal.Status.{Status}
 use Rattle.dk_cli.specs.declared.refusal.StepFault.TheVariants as step_fault
 use Rattle.dk_cli.specs.declared.refusal.Status.TheVariants as status
 use Rattle.dk_cli.proofs.OneOutcome.{one_outcome}
+use Rattle.dk_cli.proofs.WordLaws.{alike_asked}
 
 -- a refusal's status is its own, or that memory ran out
 pub refused_status : (refusal : Refusal) (result : Status) (notes : Change)
@@ -25,13 +27,13 @@ refused_status refusal result notes (inr h) = inr h.1.status
 -- ---- the statuses that can come
 
 -- that of no development
-trace_status : (names : Names) (refusal : Refusal) → IsOfTrace refusal
-    → CanCome (convert names) (status_of refusal) × CanCome (steps names) (status_of refusal) × CanCome (extract names) (status_of refusal)
-trace_status names (NotLp at) h = absurd h
-trace_status names (NotTyped fault) h = absurd h
-trace_status names (Step step (step_fault.Over limit)) h = (tt, tt, tt)
-trace_status names (Step step fault) h = (tt, tt, tt)
-trace_status names refusal h = (tt, tt, tt)
+trace_status : (names : Names) (limit : ℕ) (refusal : Refusal) → IsOfTrace refusal
+    → CanCome (convert names limit) (status_of refusal) × CanCome (steps names) (status_of refusal) × CanCome (extract names) (status_of refusal)
+trace_status names limit (NotLp at) h = absurd h
+trace_status names limit (NotTyped fault) h = absurd h
+trace_status names limit (Step step (step_fault.Over over)) h = (tt, tt, tt)
+trace_status names limit (Step step fault) h = (tt, tt, tt)
+trace_status names limit refusal h = (tt, tt, tt)
 
 -- that of no problem and no trace
 development_status : (name : List ℕ) (refusal : Refusal) → IsOfDevelopment refusal → CanCome (check name) (status_of refusal)
@@ -43,32 +45,59 @@ development_status name (NotTyped fault) h = tt
 development_status name Memory h = tt
 development_status name refusal h = absurd h
 
-refused_can_come : (command : Command) (refusal : Refusal) → Refuses command refusal → CanCome command (status_of refusal)
-refused_can_come (convert names) refusal h = (trace_status names refusal h).0
-refused_can_come (steps names) refusal h = (trace_status names refusal h).1
-refused_can_come (extract names) refusal h = (trace_status names refusal h).2
-refused_can_come (check name) refusal h = development_status name refusal h
+-- where files are read
+module _ (told : Told) (command : Command) (done : CanCome command status.Done) (cut : CanCome command status.WriteFault) (memory : CanCome command status.Memory)
+    (refused : (refusal : Refusal) → Refuses command refusal → CanCome command (status_of refusal)) where
+  reading_can_come : (before now : ℕ) (answer : Result (List ℕ) Refusal) (result : Status) (out notes : Change)
+      → AnswersCommand told command before now answer → Delivers answer result out notes → CanCome command result
+  reading_can_come before now (Ok text) result out notes a (inl w) = subst (CanCome command) (sym w.status) done
+  reading_can_come before now (Ok text) result out notes a (inr w) = subst (CanCome command) (sym w.refused.status) cut
+  reading_can_come before now (Err refusal) result out notes a d = elim (refused_status refusal result notes d.1) [
+    | inl s ↦ subst (CanCome command) (sym s) (refused refusal a.refusal)
+    | inr s ↦ subst (CanCome command) (sym s) memory
+  ]
 
--- those of every command
-done_can_come : (command : Command) → CanCome command status.Done × CanCome command status.WriteFault × CanCome command status.Memory
-done_can_come (convert names) = (tt, tt, tt)
-done_can_come (steps names) = (tt, tt, tt)
-done_can_come (extract names) = (tt, tt, tt)
-done_can_come (check name) = (tt, tt, tt)
+-- a refusal that is known
+told_refused : (refusal : Refusal) (answer : Result (List ℕ) Refusal) (result : Status) (out notes : Change) → answer ≡ Err refusal → Delivers answer result out notes
+    → (result ≡ status_of refusal) ⊎ (result ≡ status.Memory)
+told_refused refusal answer result out notes e d =
+    refused_status refusal result notes (subst (λ x. Delivers x result out notes) e d).1
+
+memory_refused : (answer : Result (List ℕ) Refusal) → IsMemory answer → answer ≡ Err Memory
+memory_refused (Ok text) m = absurd m
+memory_refused (Err Memory) m = refl
+memory_refused (Err refusal) m = absurd m
+
+-- where none are
+usage_written : (answer : Result (List ℕ) Refusal) (result : Status) (out notes : Change) → IsFixed help answer → Delivers answer result out notes → WritesUsage result out notes
+usage_written answer result out notes e d = subst (λ x. Delivers x result out notes) e d
+
+help_can_come : (result : Status) (out notes : Change) → WritesUsage result out notes → CanCome help result
+help_can_come result out notes (inl w) = subst (CanCome help) (sym w.status) tt
+help_can_come result out notes (inr w) = subst (CanCome help) (sym w.refused.status) tt
 
 command_can_come : (told : Told) (command : Command) (before now : ℕ) (answer : Result (List ℕ) Refusal) (result : Status) (out notes : Change)
-    → AnswersCommand told command before now answer → Delivers answer result out notes → CanCome command result
-command_can_come told command before now (Ok text) result out notes a (inl w) = subst (CanCome command) (sym w.status) (done_can_come command).0
-command_can_come told command before now (Ok text) result out notes a (inr w) = subst (CanCome command) (sym w.refused.status) (done_can_come command).1
-command_can_come told command before now (Err refusal) result out notes a d = elim (refused_status refusal result notes d.1) [
-  | inl s ↦ subst (CanCome command) (sym s) (refused_can_come command refusal a.refusal)
-  | inr s ↦ subst (CanCome command) (sym s) (done_can_come command).2
-]
+    → AnswersCommand told command before now answer → IsFixed command answer → Delivers answer result out notes → CanCome command result
+command_can_come told (convert names limit) before now answer result out notes a f d =
+    reading_can_come told (convert names limit) tt tt tt (λ refusal h. (trace_status names limit refusal h).0) before now answer result out notes a d
+command_can_come told (steps names) before now answer result out notes a f d =
+    reading_can_come told (steps names) tt tt tt (λ refusal h. (trace_status names 0 refusal h).1) before now answer result out notes a d
+command_can_come told (extract names) before now answer result out notes a f d =
+    reading_can_come told (extract names) tt tt tt (λ refusal h. (trace_status names 0 refusal h).2) before now answer result out notes a d
+command_can_come told (check name) before now answer result out notes a f d =
+    reading_can_come told (check name) tt tt tt (development_status name) before now answer result out notes a d
+command_can_come told help before now answer result out notes a f d = help_can_come result out notes (usage_written answer result out notes f d)
 
 pub can_come : (told : Told) (command : Option Command) (before now : ℕ) (answer : Result (List ℕ) Refusal) (result : Status) (out notes : Change)
-    → Answers told command before now answer → Delivers answer result out notes → IfSome command (λ found. CanCome found result)
-can_come told None before now answer result out notes a d = tt
-can_come told (Some command) before now answer result out notes a d = command_can_come told command before now answer result out notes a d
+    → Answers told command before now answer → IfSome command (λ found. IsFixed found answer) → Delivers answer result out notes → IfSome command (λ found. CanCome found result)
+can_come told None before now answer result out notes a f d = tt
+can_come told (Some command) before now answer result out notes a f d = command_can_come told command before now answer result out notes a f d
+
+-- the usage text is written
+pub writes_usage : (command : Option Command) (answer : Result (List ℕ) Refusal) (result : Status) (out notes : Change)
+    → IfSome command (λ found. IsFixed found answer) → Delivers answer result out notes → command ≡ Some help → WritesUsage result out notes
+writes_usage command answer result out notes f d asked =
+    usage_written answer result out notes (subst (λ c. IfSome c (λ found. IsFixed found answer)) asked f) d
 
 -- ---- what is refused before anything is written
 
@@ -89,10 +118,11 @@ development_before WriteFault h = h
 development_before refusal h = tt
 
 before_writing : (command : Command) (refusal : Refusal) → Refuses command refusal → ComesBeforeWriting refusal
-before_writing (convert names) refusal h = trace_before refusal h
+before_writing (convert names limit) refusal h = trace_before refusal h
 before_writing (steps names) refusal h = trace_before refusal h
 before_writing (extract names) refusal h = trace_before refusal h
 before_writing (check name) refusal h = development_before refusal h
+before_writing help refusal h = absurd h
 
 -- a refusal but that of a write fault leaves the sink alone
 untouched_by : (refusal : Refusal) (out : Change) → refusal ≢ WriteFault → IsUntouched out → WritesByStatus (status_of refusal) out
@@ -104,7 +134,7 @@ untouched_by refusal out other u = u
 -- no answer is a write fault
 never_write_fault : (told : Told) (command : Option Command) (before now : ℕ) (answer : Result (List ℕ) Refusal)
     → Answers told command before now answer → answer ≢ Err WriteFault
-never_write_fault told None before now answer a e = let words = sym a.0 ∙ e in cc
+never_write_fault told None before now answer a e = elim a.0 [ inl words ↦ let w = sym words ∙ e in absurd cc | inr memory ↦ subst IsMemory e memory ]
 never_write_fault told (Some command) before now answer a e = before_writing command WriteFault (subst (λ r. IfErr r (Refuses command)) e a.refusal)
 
 pub writes_by : (told : Told) (command : Option Command) (before now : ℕ) (answer : Result (List ℕ) Refusal) (result : Status) (out notes : Change)
@@ -152,21 +182,19 @@ pub words_only : (told : Told) (command : Option Command) (before now : ℕ) (an
 words_only told None before now answer result out notes a d e = refl
 words_only told (Some command) before now answer result out notes a d e = absurd (command_not_words told command before now answer result out notes a d e)
 
-told_words : (answer : Result (List ℕ) Refusal) (result : Status) (out notes : Change)
-    → answer ≡ Err Words → Delivers answer result out notes → result ≡ status.Words
-told_words answer result out notes e d =
+-- words that ask for none are told so, or memory ran out
+none_refused : (asks : Bool) (answer : Result (List ℕ) Refusal) (result : Status) (out notes : Change)
+    → (answer ≡ Err Words) ⊎ IsMemory answer → (IsMemory answer → asks ≡ true) → Delivers answer result out notes → RefusesWords asks result
+none_refused asks answer result out notes (inl e) memory d =
     let refused : Delivers (Err Words) result out notes = subst (λ x. Delivers x result out notes) e d in
-    elim refused.1 [ inl r ↦ r.status | inr r ↦ absurd r.0 ]
+    elim refused.1 [ inl r ↦ inl r.status | inr r ↦ absurd r.0 ]
+none_refused asks answer result out notes (inr m) memory d =
+    elim (told_refused Memory answer result out notes (memory_refused answer m) d) [ inl s ↦ inr (memory m, s) | inr s ↦ inr (memory m, s) ]
 
-pub words_if : (told : Told) (command : Option Command) (before now : ℕ) (answer : Result (List ℕ) Refusal) (result : Status) (out notes : Change)
-    → Answers told command before now answer → Delivers answer result out notes → command ≡ None → result ≡ status.Words
-words_if told None before now answer result out notes a d e = told_words answer result out notes a.0 d
-words_if told (Some command) before now answer result out notes a d e = cc
-
-pub words_count : (told : Told) (command : Option Command) (before now : ℕ) (answer : Result (List ℕ) Refusal)
-    → Answers told command before now answer → command ≡ None → now ≡ before
-words_count told None before now answer a e = a.1
-words_count told (Some command) before now answer a e = cc
+pub words_if : (told : Told) (asks : Bool) (command : Option Command) (before now : ℕ) (answer : Result (List ℕ) Refusal) (result : Status) (out notes : Change)
+    → Answers told command before now answer → (command ≡ None → IsMemory answer → asks ≡ true) → Delivers answer result out notes → command ≡ None → RefusesWords asks result
+words_if told asks None before now answer result out notes a memory d e = none_refused asks answer result out notes a.0 (memory refl) d
+words_if told asks (Some command) before now answer result out notes a memory d e = absurd cc
 
 -- what was told without memory running out is the refusal itself
 refused_itself : (refusal : Refusal) (result : Status) (notes : Change) → result ≢ status.Memory
@@ -222,6 +250,14 @@ pub some_carries : (told : Told) (command : Option Command) (before now : ℕ) (
 some_carries told None before now answer result out notes a d = tt
 some_carries told (Some command) before now answer result out notes a d = carries told command before now answer result out notes a d
 
+-- so is that of words which differ in the number of workers
+pub alike_carries : (told : Told) (line other : List Text) (before now : ℕ) (answer : Result (List ℕ) Refusal) (result : Status) (out notes : Change)
+    → Answers told (asked_of line) before now answer → Delivers answer result out notes → AskAlike line other
+    → IfSome (asked_of other) (λ found. CarriesOutEach told found before now result out notes)
+alike_carries told line other before now answer result out notes a d alike =
+    subst (λ command. IfSome command (λ found. CarriesOutEach told found before now result out notes)) (sym (alike_asked line other alike))
+    (some_carries told (asked_of line) before now answer result out notes a d)
+
 -- an answer of a read fault ends with its status
 fault_status : (answer : Result (List ℕ) Refusal) (result : Status) (out notes : Change) → IsReadFault answer → Delivers answer result out notes → result ≡ status.ReadFault
 fault_status (Ok text) result out notes f d = absurd f
@@ -257,7 +293,8 @@ command_read_only told command before now (Err refusal) result out notes a d e =
 
 pub read_only : (told : Told) (command : Option Command) (before now : ℕ) (answer : Result (List ℕ) Refusal) (result : Status) (out notes : Change)
     → Answers told command before now answer → Delivers answer result out notes → result ≡ status.ReadFault → Rose before now ⊎ Lacks told command
-read_only told None before now answer result out notes a d e = let words = sym (told_words answer result out notes a.0 d) ∙ e in absurd cc
+read_only told None before now answer result out notes a d e =
+    elim (none_refused true answer result out notes a.0 (λ m. refl) d) [ inl w ↦ let s = sym w ∙ e in absurd cc | inr m ↦ let s = sym m.1 ∙ e in absurd cc ]
 read_only told (Some command) before now answer result out notes a d e = command_read_only told command before now answer result out notes a d e
 
 -- no refusal ends with status 0

@@ -6,7 +6,8 @@ use Rattle.std.specs.Io.KnownBytes.{Appends}
 use Rattle.dk_io.specs.Outside.{Told}
 use Rattle.extract.specs.StepProblems.{problems_of}
 use Rattle.dk_cli.specs.Answer.{Answers, AnswersCommand, IsTold}
-use Rattle.dk_cli.specs.Commands.{Command, Names, extract}
+use Rattle.words.specs.Commands.{Names}
+use Rattle.dk_cli.specs.Commands.{Command, extract}
 use Rattle.dk_cli.specs.Delivery.{Change, Delivers}
 use Rattle.dk_cli.specs.Derivations.{IsDerivationAt}
 use Rattle.dk_cli.specs.Extraction.{IsExtracted, WritesProblems}

@@ -15,3 +15,5 @@ pub mod Reported
 pub mod RootMarks
 pub mod StageLaws
 pub mod Unread
+pub mod WordLaws
+pub mod WordsAnswered

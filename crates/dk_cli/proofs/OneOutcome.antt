@@ -15,7 +15,8 @@ use Rattle.tstp_trace.specs.declared.ProblemFault.TheVariants as problem_fault
 use Rattle.tstp_trace.specs.declared.Trace.{Trace}
 use Rattle.tstp_trace.specs.declared.TraceFault.TheVariants as trace_fault
 use Rattle.dk_cli.specs.Checking.{IsCheckedIn}
-use Rattle.dk_cli.specs.Commands.{Command, Names, check, convert, extract, steps}
+use Rattle.words.specs.Commands.{Names}
+use Rattle.dk_cli.specs.Commands.{Command, check, convert, extract, help, steps}
 use Rattle.dk_cli.specs.Conversion.{ArePlanned, IsBuilt, IsDeveloped, IsFlatDeveloped, IsPlanIn, IsRightDeveloped, IsRootIn, IsWritten, barred, formulas_of, plan_refusal, root_told}
 use Rattle.dk_cli.specs.Derivations.{IsDerivationAt, IsDerivationIn, IsDerivedBy, IsFile, IsGraphIn, IsProblemIn, IsText, IsTraceIn, derivation, graph_refusal, problem_refusal, text_refusal, trace_refusal}
 use Rattle.dk_cli.specs.Judging.{IsJudged}
@@ -118,10 +119,11 @@ one_developed d = one_of_two (IsRootIn d.problem d.trace) (IsRightDeveloped d) (
 -- ---- the whole
 
 one_given : (command : Command) (files : List ℕ → Option (List ℕ)) → IsOne refusal.Memory (IsGiven command files)
-one_given (convert names) files = one_of_two (IsDerivationAt names files) IsDeveloped (one_derivation names files) one_developed
+one_given (convert names limit) files = one_of_two (IsDerivationAt names files) IsDeveloped (one_derivation names files) one_developed
 one_given (steps names) files = one_of_two (IsDerivationAt names files) IsReported (one_derivation names files) one_reported
 one_given (extract names) files = one_of_two (IsDerivationAt names files) IsExtracted (one_derivation names files) (λ d one other h k not_one not_other. h ∙ sym k)
 one_given (check name) files = one_of_two (IsFile file.Development (files name)) IsCheckedIn (one_file file.Development (files name)) one_checked_in
+one_given help files = λ one other h k not_one not_other. h ∙ sym k
 
 pub one_outcome : (command : Command) (files : List ℕ → Option (List ℕ)) (one other : Result (List ℕ) Refusal) → IsOutcome command files one → IsOutcome command files other → one ≡ other
 one_outcome command files one other h k = one_given command files one other h.given k.given h.memory k.memory

@@ -23,7 +23,8 @@ use Rattle.tstp_trace.specs.declared.Step.{Step}
 use Rattle.tstp_trace.specs.declared.Trace.{Trace}
 use Rattle.dk_cli.specs.Answer.{Answers, AnswersCommand, IsTold}
 use Rattle.step_check.specs.Steps.{nodes_of}
-use Rattle.dk_cli.specs.Commands.{Command, Names, convert}
+use Rattle.words.specs.Commands.{Names}
+use Rattle.dk_cli.specs.Commands.{Command, convert}
 use Rattle.dk_cli.specs.Delivery.{Change, Delivers}
 use Rattle.dk_cli.specs.Conversion.{ArePlanned, IsBuilt, IsDeveloped, IsFlatDeveloped, IsPlanIn, IsPrinted, IsRightDeveloped, IsRootIn, IsWritten, formulas_of, plan_refusal}
 use Rattle.dk_cli.specs.Derivations.{IsDerivationIn, IsDerivationOf, IsDerivedBy, IsFile, IsGraphIn, IsProblemIn, IsText, IsTraceIn, derivation, graph_refusal, problem_refusal}
@@ -163,26 +164,26 @@ proof_text found other text h =
     }
 
 -- a text that was written whole
-module _ (told : Told) (names : Names) (before now : ℕ) where
-  writes_text : (given : Told) (text : List ℕ) (out : Change) → IsTold given (IsOutcome (convert names)) (Ok text) → Appends out.old out.new text
+module _ (told : Told) (names : Names) (limit before now : ℕ) where
+  writes_text : (given : Told) (text : List ℕ) (out : Change) → IsTold given (IsOutcome (convert names limit)) (Ok text) → Appends out.old out.new text
       → WritesProof given names out
   writes_text None text out outcome bytes = tt
   writes_text (Some files) text out outcome bytes =
       let proof = proof_text (files names.problem) (files names.trace) text outcome.given in
       (proof.bytes, proof.is, (proof.problem, proof.spelled, (text, proof.proof, bytes)))
 
-  told_text : (text : List ℕ) → AnswersCommand told (convert names) before now (Ok text) → IsTold told (IsOutcome (convert names)) (Ok text)
+  told_text : (text : List ℕ) → AnswersCommand told (convert names limit) before now (Ok text) → IsTold told (IsOutcome (convert names limit)) (Ok text)
   told_text text a = elim a.outcome [ inl h ↦ absurd h.0 | inr rest ↦ elim rest [ inl h ↦ absurd h | inr outcome ↦ outcome ] ]
 
   converts : (answer : Result (List ℕ) Refusal) (result : Status) (out notes : Change)
-      → AnswersCommand told (convert names) before now answer → Delivers answer result out notes → result ≡ status.Done → WritesProof told names out
+      → AnswersCommand told (convert names limit) before now answer → Delivers answer result out notes → result ≡ status.Done → WritesProof told names out
   converts (Ok text) result out notes a (inl w) done = writes_text told text out (told_text text a) w.bytes
   converts (Ok text) result out notes a (inr w) done = let s = sym w.refused.status ∙ done in absurd cc
   converts (Err refusal) result out notes a d done = absurd (refusal_not_done refusal result notes d.1 done)
 
 -- status 0 of `convert` comes with a proof
 pub writes_proof : (told : Told) (command : Option Command) (before now : ℕ) (answer : Result (List ℕ) Refusal) (result : Status) (out notes : Change)
-    → Answers told command before now answer → Delivers answer result out notes → (names : Names) → command ≡ Some (convert names) → result ≡ status.Done
+    → Answers told command before now answer → Delivers answer result out notes → (names : Names) (limit : ℕ) → command ≡ Some (convert names limit) → result ≡ status.Done
     → WritesProof told names out
-writes_proof told command before now answer result out notes a d names asked done =
-    converts told names before now answer result out notes (subst (λ c. Answers told c before now answer) asked a) d done
+writes_proof told command before now answer result out notes a d names limit asked done =
+    converts told names limit before now answer result out notes (subst (λ c. Answers told c before now answer) asked a) d done

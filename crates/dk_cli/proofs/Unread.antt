@@ -7,7 +7,8 @@ use Rattle.std.specs.declared.alloc.Global.{Global}
 use Rattle.dk_io.specs.Causes.{Rose}
 use Rattle.dk_io.specs.Outside.{Told, IsAbsent, IsFile, Tells}
 use Rattle.dk_cli.specs.Answer.{IsTold, LacksOneOf}
-use Rattle.dk_cli.specs.Commands.{Names, files_of_names}
+use Rattle.words.specs.Commands.{Names}
+use Rattle.dk_cli.specs.Commands.{files_of_names}
 use Rattle.dk_cli.specs.Derivations.{IsDerivationAt, IsDerivationIn, IsDerivationOf, byte_limit}
 use Rattle.dk_cli.specs.Stages.{Answered}
 use Rattle.dk_cli.specs.Steps.{AnswersDerivation, ReadsFile}

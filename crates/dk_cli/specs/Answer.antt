@@ -1,10 +1,11 @@
 -- What the program answers to a command, before anything is written.
-use Rattle.std.specs.Prelude.{◌≡◌, ℕ, ◌<◌, ◌≤◌, ◌⊎◌, List, [], ◌∷◌, length, None, Some, Err, IfErr}
+use Rattle.std.specs.Prelude.{◌≡◌, ℕ, ◌<◌, ◌≤◌, ◌⊎◌, List, [], ◌∷◌, length, None, Some, Ok, Err, IfErr}
 use Rattle.std.specs.declared.option.Option.{Option}
 use Rattle.std.specs.declared.result.Result.{Result}
 use Rattle.dk_io.specs.Causes.{Rose}
 use Rattle.dk_io.specs.Outside.{Told, IsAbsent, Tells}
-use Rattle.dk_cli.specs.Commands.{Command, check, convert, extract, files_of, steps}
+use Rattle.words.specs.Usage.{usage_text}
+use Rattle.dk_cli.specs.Commands.{Command, check, convert, extract, files_of, help, steps}
 use Rattle.dk_cli.specs.Derivations.{byte_limit}
 use Rattle.dk_cli.specs.Outcome.{IsOutcome}
 use Rattle.dk_cli.specs.declared.refusal.Refusal.{Refusal}
@@ -57,10 +58,11 @@ IsOfDevelopment refusal = ⊥
 
 -- What a command refuses before anything is written.
 abbrev pub Refuses : Command → Refusal → Type 0
-Refuses (convert names) refusal = IsOfTrace refusal
+Refuses (convert names limit) refusal = IsOfTrace refusal
 Refuses (steps names) refusal = IsOfTrace refusal
 Refuses (extract names) refusal = IsOfTrace refusal
 Refuses (check name) refusal = IsOfDevelopment refusal
+Refuses help refusal = ⊥
 
 -- The answer to what reads files, of which one lacks or not, and refuses such things, by the counts of the inputs
 -- before and now: what the files give, unless the inputs failed or memory ran out.
@@ -76,7 +78,12 @@ pub record IsAnswer {A : Type 0} (Lacks : Type 0) (Can : Refusal → Type 0) (Is
 abbrev pub AnswersCommand : Told → Command → ℕ → ℕ → Result (List ℕ) Refusal → Type 0
 AnswersCommand told command before now answer = IsAnswer (LacksFile told command) (Refuses command) (IsToldOutcome told command) before now answer
 
+-- What is answered where no file is read, whether or not the inputs tell theirs: the usage text.
+abbrev pub IsFixed : Command → Result (List ℕ) Refusal → Type 0
+IsFixed help answer = answer ≡ Ok usage_text
+IsFixed command answer = Unit {0}
+
 -- The answer to the words, which ask for a command or for none.
 abbrev pub Answers : Told → Option Command → ℕ → ℕ → Result (List ℕ) Refusal → Type 0
-Answers told None before now answer = (answer ≡ Err Words) × (now ≡ before)
+Answers told None before now answer = ((answer ≡ Err Words) ⊎ IsMemory answer) × (now ≡ before)
 Answers told (Some command) before now answer = AnswersCommand told command before now answer

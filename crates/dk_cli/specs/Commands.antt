@@ -1,55 +1,65 @@
--- What the words of a command line ask for.
-use Rattle.std.specs.Prelude.{ℕ, List, [], ◌∷◌, Bool, true, false, None, Some, if◌then◌else◌, ◌==◌, ◌&&◌, bytes_eq, string_bytes, map, codes}
+-- What the words of a command line ask for, as far as the outcome depends on it.
+use Rattle.std.specs.Prelude.{◌≡◌, ℕ, List, [], ◌∷◌, None, Some, option_and_then}
 use Rattle.std.specs.declared.option.Option.{Option}
-use Rattle.std.specs.declared.string.String.{String}
-use Rattle.std.specs.declared.alloc.Global.{Global}
+use Rattle.words.specs.Commands.{Names, Text, Command as Words}
+use Rattle.words.specs.Commands as words
+use Rattle.words.specs.Reading.{command_of}
 
--- The bytes of each word.
-abbrev pub texts : List (String Global) → List (List ℕ)
-texts words = map string_bytes words
-
--- A word names a file unless it begins with `-` and goes on.
-abbrev pub is_file_name : List ℕ → Bool
-is_file_name [] = true
-is_file_name (first ∷ []) = true
-is_file_name (first ∷ second ∷ rest) = if first == 45 then false else true
-
--- The names of a problem's file and of a trace's.
-pub record Names : Type 0 where
-  pub problem : List ℕ
-  pub trace : List ℕ
-
--- A command, with the names of its files.
+-- A command that is built, with its files and the limit on the weight, which is not tested yet; or the usage text. No
+-- number of workers stands here.
 pub data Command : Type 0 where
-  convert : Names → Command
+  convert : Names → ℕ → Command
   steps : Names → Command
   extract : Names → Command
-  check : List ℕ → Command
+  check : Text → Command
+  help : Command
+
+-- What the words of a command ask for, where it is built.
+abbrev pub built : Words → Option Command
+built (words.convert names limit workers) = Some (convert names limit)
+built (words.steps names workers) = Some (steps names)
+built (words.extract names workers) = Some (extract names)
+built (words.expansion names limit workers) = None
+built (words.check file) = Some (check file)
+built (words.generate number workers) = None
+built words.help = Some help
+
+-- What the words ask for, if anything.
+abbrev pub asked_of : List Text → Option Command
+asked_of line = option_and_then built (command_of line)
 
 -- The files that a command reads, in order.
-abbrev pub files_of_names : Names → List (List ℕ)
+abbrev pub files_of_names : Names → List Text
 files_of_names names = names.problem ∷ names.trace ∷ []
 
-abbrev pub files_of : Command → List (List ℕ)
-files_of (convert names) = files_of_names names
+abbrev pub files_of : Command → List Text
+files_of (convert names limit) = files_of_names names
 files_of (steps names) = files_of_names names
 files_of (extract names) = files_of_names names
 files_of (check file) = file ∷ []
+files_of help = []
 
--- The command on a problem and a trace that a word asks for.
-abbrev pub command_on : List ℕ → Names → Option Command
-command_on word names =
-    if bytes_eq word (codes "convert") then Some (convert names)
-    else (if bytes_eq word (codes "steps") then Some (steps names)
-    else (if bytes_eq word (codes "extract") then Some (extract names) else None))
+-- The files that words ask to read.
+abbrev pub files_asked : Option Command → List Text
+files_asked None = []
+files_asked (Some command) = files_of command
 
--- The command on one file that a word asks for.
-abbrev pub command_on_file : List ℕ → List ℕ → Option Command
-command_on_file word file = if bytes_eq word (codes "check") then Some (check file) else None
+-- ---- numbers of workers
 
--- The commands are `convert PROBLEM TRACE`, `steps PROBLEM TRACE`, `extract PROBLEM TRACE` and `check FILE`.
-abbrev pub command_of : List (List ℕ) → Option Command
-command_of (word ∷ problem ∷ trace ∷ []) =
-    if is_file_name problem && is_file_name trace then command_on word (record { problem = problem; trace = trace }) else None
-command_of (word ∷ file ∷ []) = if is_file_name file then command_on_file word file else None
-command_of words = None
+-- The same command, but for the number of workers.
+abbrev pub AreAlike : Words → Words → Type 0
+AreAlike (words.convert names limit workers) other = (number : ℕ) × (other ≡ words.convert names limit number)
+AreAlike (words.steps names workers) other = (number : ℕ) × (other ≡ words.steps names number)
+AreAlike (words.extract names workers) other = (number : ℕ) × (other ≡ words.extract names number)
+AreAlike (words.expansion names limit workers) other = (number : ℕ) × (other ≡ words.expansion names limit number)
+AreAlike (words.check file) other = other ≡ words.check file
+AreAlike (words.generate made workers) other = (number : ℕ) × (other ≡ words.generate made number)
+AreAlike words.help other = other ≡ words.help
+
+-- Both lines ask for such commands.
+pub record AskAlike (line other : List Text) : Type 0 where
+  pub one : Words
+  pub two : Words
+  pub first : command_of line ≡ Some one
+  pub second : command_of other ≡ Some two
+  pub alike : AreAlike one two

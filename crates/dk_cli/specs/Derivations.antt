@@ -19,7 +19,7 @@ use Rattle.tstp_trace.specs.declared.ProblemFault.TheVariants as problem_fault
 use Rattle.tstp_trace.specs.declared.Trace.{Trace}
 use Rattle.tstp_trace.specs.declared.TraceFault.{TraceFault}
 use Rattle.tstp_trace.specs.declared.TraceFault.TheVariants as trace_fault
-use Rattle.dk_cli.specs.Commands.{Names}
+use Rattle.words.specs.Commands.{Names}
 use Rattle.dk_cli.specs.Stages.{Follows, IsToldBy}
 use Rattle.dk_cli.specs.declared.derivation.Derivation.{Derivation}
 use Rattle.dk_cli.specs.declared.refusal.File.{File}

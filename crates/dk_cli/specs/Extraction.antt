@@ -5,7 +5,7 @@ use Rattle.std.specs.declared.result.Result.{Result}
 use Rattle.std.specs.Io.KnownBytes.{Appends}
 use Rattle.dk_io.specs.Outside.{Told}
 use Rattle.extract.specs.StepProblems.{problems_of}
-use Rattle.dk_cli.specs.Commands.{Names}
+use Rattle.words.specs.Commands.{Names}
 use Rattle.dk_cli.specs.Delivery.{Change}
 use Rattle.dk_cli.specs.Derivations.{IsDerivationAt}
 use Rattle.dk_cli.specs.declared.derivation.Derivation.{Derivation}

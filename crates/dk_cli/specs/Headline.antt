@@ -1,21 +1,25 @@
 -- What a caller of the program can rely on.
-use Rattle.std.specs.Prelude.{◌≡◌, ◌≢◌, ℕ, ◌⊎◌, List, Ok, Err, None, Some}
+use Rattle.std.specs.Prelude.{◌≡◌, ◌≢◌, ℕ, ◌⊎◌, Bool, true, List, Ok, Err, None, Some, IfSome}
 use Rattle.std.specs.declared.option.Option.{Option}
 use Rattle.std.specs.declared.result.Result.{Result}
 use Rattle.std.specs.Io.KnownBytes.{Appends}
 use Rattle.dk_io.specs.Causes.{Rose}
 use Rattle.dk_io.specs.Outside.{Told, AppendsFront}
-use Rattle.dk_cli.specs.Commands.{Command, check, convert, extract, steps}
-use Rattle.dk_cli.specs.Answer.{Answers, IsToldOutcome, LacksFile}
+use Rattle.words.specs.Usage.{usage_text}
+use Rattle.dk_cli.specs.Commands.{Command, check, convert, extract, help, steps}
+use Rattle.dk_cli.specs.Answer.{Answers, IsFixed, IsMemory, IsToldOutcome, LacksFile}
 use Rattle.dk_cli.specs.Delivery.{Change, Delivers, IsCut, IsNoted, IsRefused, IsUntouched, IsWritten}
 use Rattle.dk_cli.specs.declared.refusal.Refusal.{Refusal}
 use Rattle.dk_cli.specs.declared.refusal.Status.{Status}
 use Rattle.dk_cli.specs.declared.refusal.Status.TheVariants as status
 
--- There is an answer to the words, and it was delivered.
-pub record IsRun (told : Told) (command : Option Command) (before now : ℕ) (result : Status) (out notes : Change) : Type 0 where
+-- There is an answer to the words, and it was delivered. Reading the words takes memory only where the first is a
+-- command's.
+pub record IsRun (told : Told) (asks : Bool) (command : Option Command) (before now : ℕ) (result : Status) (out notes : Change) : Type 0 where
   pub answer : Result (List ℕ) Refusal
   pub answers : Answers told command before now answer
+  pub fixed : IfSome command (λ found. IsFixed found answer)
+  pub memory : command ≡ None → IsMemory answer → asks ≡ true
   pub delivers : Delivers answer result out notes
 
 -- A file that the words' command reads is absent.
@@ -23,11 +27,11 @@ abbrev pub Lacks : Told → Option Command → Type 0
 Lacks told None = ⊥
 Lacks told (Some command) = LacksFile told command
 
--- The statuses that can come: that of a development that is not typed for `check` alone, and for `check` none of
--- a problem and a trace.
+-- The statuses that can come: that of a development that is not typed for `check` alone, for `check` none of
+-- a problem and a trace, and for `--help` those of a text that is written.
 abbrev pub CanCome : Command → Status → Type 0
-CanCome (convert names) status.IllTyped = ⊥
-CanCome (convert names) result = Unit {0}
+CanCome (convert names limit) status.IllTyped = ⊥
+CanCome (convert names limit) result = Unit {0}
 CanCome (steps names) status.IllTyped = ⊥
 CanCome (steps names) result = Unit {0}
 CanCome (extract names) status.IllTyped = ⊥
@@ -35,6 +39,18 @@ CanCome (extract names) result = Unit {0}
 CanCome (check name) status.Input = ⊥
 CanCome (check name) status.Unbuilt = ⊥
 CanCome (check name) result = Unit {0}
+CanCome help status.Done = Unit {0}
+CanCome help status.WriteFault = Unit {0}
+CanCome help result = ⊥
+
+-- Words that ask for no command are refused, unless memory ran out in reading them, which takes none where the first
+-- word is no command's.
+abbrev pub RefusesWords : Bool → Status → Type 0
+RefusesWords asks result = (result ≡ status.Words) ⊎ ((asks ≡ true) × (result ≡ status.Memory))
+
+-- The usage text is written, whole or to where the sink failed.
+abbrev pub WritesUsage : Status → Change → Change → Type 0
+WritesUsage result out notes = IsWritten usage_text result out notes ⊎ IsCut usage_text result out notes
 
 -- What the sink has more: one text with status 0, the front of one after a write fault, else nothing.
 abbrev pub WritesByStatus : Status → Change → Type 0

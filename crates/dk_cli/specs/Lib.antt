@@ -13,3 +13,4 @@ pub mod Refusals
 pub mod Stages
 pub mod StepReport
 pub mod Steps
+pub mod Views

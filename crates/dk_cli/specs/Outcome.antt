@@ -1,8 +1,10 @@
--- What the files of a command give: its text, or the first refusal.
-use Rattle.std.specs.Prelude.{◌≢◌, ℕ, List, Err}
+-- What the files of a command give: its text, or the first refusal. It does not depend on the number of workers, which
+-- is no part of a command.
+use Rattle.std.specs.Prelude.{◌≡◌, ◌≢◌, ℕ, List, Ok, Err}
 use Rattle.std.specs.declared.option.Option.{Option}
 use Rattle.std.specs.declared.result.Result.{Result}
-use Rattle.dk_cli.specs.Commands.{Command, check, convert, extract, steps}
+use Rattle.words.specs.Usage.{usage_text}
+use Rattle.dk_cli.specs.Commands.{Command, check, convert, extract, help, steps}
 use Rattle.dk_cli.specs.Checking.{IsCheckedAt}
 use Rattle.dk_cli.specs.Conversion.{IsDeveloped}
 use Rattle.dk_cli.specs.Derivations.{IsDerivationAt}
@@ -12,12 +14,13 @@ use Rattle.dk_cli.specs.StepReport.{IsReported}
 use Rattle.dk_cli.specs.declared.refusal.Refusal.{Refusal}
 use Rattle.dk_cli.specs.declared.refusal.Refusal.TheVariants.{Memory}
 
--- What the files give to the command.
+-- What the files give to the command. The limit on the weight is not tested yet.
 abbrev pub IsGiven : Command → (List ℕ → Option (List ℕ)) → Result (List ℕ) Refusal → Type 0
-IsGiven (convert names) files answer = Follows (IsDerivationAt names files) IsDeveloped answer
+IsGiven (convert names limit) files answer = Follows (IsDerivationAt names files) IsDeveloped answer
 IsGiven (steps names) files answer = Follows (IsDerivationAt names files) IsReported answer
 IsGiven (extract names) files answer = Follows (IsDerivationAt names files) IsExtracted answer
 IsGiven (check name) files answer = IsCheckedAt name files answer
+IsGiven help files answer = answer ≡ Ok usage_text
 
 -- The outcome of a command: what the files give where there is memory.
 pub record IsOutcome (command : Command) (files : List ℕ → Option (List ℕ)) (answer : Result (List ℕ) Refusal) : Type 0 where

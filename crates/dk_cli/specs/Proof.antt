@@ -15,7 +15,7 @@ use Rattle.lp_term.specs.declared.Dev.{Dev}
 use Rattle.lp_term.specs.declared.Lp.{Lp}
 use Rattle.lp_read.specs.Text.{Reads}
 use Rattle.lp_text.specs.Print.{text_of}
-use Rattle.dk_cli.specs.Commands.{Names}
+use Rattle.words.specs.Commands.{Names}
 use Rattle.dk_cli.specs.Delivery.{Change}
 use Rattle.dk_cli.specs.Derivations.{IsProblemIn}
 

@@ -6,7 +6,7 @@ use Rattle.std.specs.Io.KnownBytes.{Appends}
 use Rattle.dk_io.specs.Outside.{Told}
 use Rattle.extract.specs.StepLines.{lines_of}
 use Rattle.step_check.specs.declared.verdict.Verdict.{Verdict}
-use Rattle.dk_cli.specs.Commands.{Names}
+use Rattle.words.specs.Commands.{Names}
 use Rattle.dk_cli.specs.Delivery.{Change}
 use Rattle.dk_cli.specs.Derivations.{IsDerivationAt}
 use Rattle.dk_cli.specs.Judging.{HasVerdicts}

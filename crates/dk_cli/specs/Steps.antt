@@ -11,24 +11,13 @@ use Rattle.step_check.specs.Steps.{nodes_of}
 use Rattle.tstp_trace.specs.Traces.{HaveFitParents}
 use Rattle.tstp_trace.specs.declared.Trace.{Trace}
 use Rattle.dk_cli.specs.Answer.{IsAnswer, IsOfDevelopment, IsOfTrace, IsTold, LacksOneOf}
-use Rattle.dk_cli.specs.Commands.{Command, Names, check, convert, extract, files_of_names, steps}
+use Rattle.words.specs.Commands.{Names}
+use Rattle.dk_cli.specs.Commands.{files_of_names}
 use Rattle.dk_cli.specs.Derivations.{IsDerivationAt, IsFile, byte_limit}
 use Rattle.dk_cli.specs.declared.derivation.Derivation.{Derivation}
 use Rattle.dk_cli.specs.declared.refusal.Refusal.{Refusal}
 use Rattle.dk_cli.specs.declared.refusal.Refusal.TheVariants.{ReadFault, TooLong, Memory}
 use Rattle.dk_cli.specs.declared.refusal.File.{File}
-use Rattle.dk_cli.specs.declared.command.Command.{Command as CommandWords}
-use Rattle.dk_cli.specs.declared.command.Command.TheVariants as words
-use Rattle.dk_cli.specs.declared.command.Names.{Names as NamesWords}
-
-abbrev pub names_view : NamesWords → Names
-names_view names = record { problem = names.problem.now; trace = names.trace.now }
-
-abbrev pub command_view : CommandWords → Command
-command_view (words.Convert names) = convert (names_view names)
-command_view (words.Steps names) = steps (names_view names)
-command_view (words.Extract names) = extract (names_view names)
-command_view (words.Check file) = check file.now
 
 -- An answer, without where it lies in memory.
 abbrev pub answer_view : Result (Vec ℕ Global) Refusal → Result (List ℕ) Refusal

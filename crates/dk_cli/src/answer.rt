@@ -1,9 +1,11 @@
 //! The answer to the words: a text, or the first refusal. Neither the sink nor the notes are touched.
-ghost use Rattle.std.specs.Prelude.{◌≡◌, None, IfOk};
-ghost use Rattle.dk_cli.specs.Answer.{Answers, AnswersCommand};
-ghost use Rattle.dk_cli.specs.Commands.{texts, command_of, check, convert, extract, steps};
+ghost use Rattle.std.specs.Prelude.{◌≡◌, ℕ, ◌<◌, [], None, true, IfOk, IfSome};
+ghost use Rattle.words.specs.Reading.{asks_command};
+ghost use Rattle.words.specs.Views.{texts};
+ghost use Rattle.dk_cli.specs.Answer.{Answers, AnswersCommand, IsFixed, IsMemory};
+ghost use Rattle.dk_cli.specs.Commands.{asked_of, check, convert, extract, files_asked, files_of, steps};
 ghost use Rattle.dk_cli.specs.Steps.{AnswersDerivation, IsDerived, ReadsFile, answer_view};
-ghost use Rattle.dk_cli.specs.Steps.{command_view, names_view};
+ghost use Rattle.dk_cli.specs.Views.{HasWorkers, command_view, names_view, output_view};
 
 use crate::checking::checked_in;
 use crate::command::{Command, Names, asked_command};
@@ -11,10 +13,12 @@ use crate::conversion::developed;
 use crate::derivation::{Derivation, derivation_in};
 use crate::extraction::extracted;
 use crate::judging::reported;
+use crate::output::{Output, made};
 use crate::{File, Refusal};
 use dk_io::{Gate, Inputs, ReadAll, read_all};
 use std::alloc::Global;
 use std::thread::Threads;
+use words::usage;
 
 fn read_file<I: Inputs>(
     alloc: Global,
@@ -47,22 +51,26 @@ fn derivation_of<I: Inputs>(
 {
     let problem = read_file(alloc, inputs, names.problem, File::Problem)?;
     let trace = read_file(alloc, inputs, names.trace, File::Trace)?;
-    derivation_in(alloc, &problem, &trace)
+    derivation_in(alloc, problem, trace)
 }
 
+/// The weight is not tested yet: the answer is the same with each limit.
 fn convert<R: Threads + Sync, I: Inputs, G: Gate>(
     rt: &R,
     alloc: Global,
     inputs: &mut I,
     names: Names<'_>,
+    workers: u32,
     gate: &G,
 ) -> Result<Vec<u8>, Refusal>
+    requires { 0 < workers }
     ensures same { I.told inputs.new ≡ I.told inputs.old }
-    ensures answers { AnswersCommand (I.told inputs.old) (convert (names_view names.entry))
+    ensures answers { (limit : ℕ) → AnswersCommand (I.told inputs.old)
+        (convert (names_view names.entry) limit)
         (I.faults inputs.old) (I.faults inputs.new) (answer_view result) }
 {
     let derivation = derivation_of(alloc, inputs, names)?;
-    developed(rt, alloc, &derivation, gate)
+    developed(rt, alloc, &derivation, workers, gate)
 }
 
 fn steps<R: Threads + Sync, I: Inputs, G: Gate>(
@@ -70,14 +78,16 @@ fn steps<R: Threads + Sync, I: Inputs, G: Gate>(
     alloc: Global,
     inputs: &mut I,
     names: Names<'_>,
+    workers: u32,
     gate: &G,
 ) -> Result<Vec<u8>, Refusal>
+    requires { 0 < workers }
     ensures same { I.told inputs.new ≡ I.told inputs.old }
     ensures answers { AnswersCommand (I.told inputs.old) (steps (names_view names.entry))
         (I.faults inputs.old) (I.faults inputs.new) (answer_view result) }
 {
     let derivation = derivation_of(alloc, inputs, names)?;
-    reported(rt, alloc, &derivation, gate)
+    reported(rt, alloc, &derivation, workers, gate)
 }
 
 fn problems<I: Inputs>(alloc: Global, inputs: &mut I, names: Names<'_>) -> Result<Vec<u8>, Refusal>
@@ -95,7 +105,7 @@ fn check<I: Inputs>(alloc: Global, inputs: &mut I, name: &str) -> Result<Vec<u8>
         (I.faults inputs.old) (I.faults inputs.new) (answer_view result) }
 {
     let bytes = read_file(alloc, inputs, name, File::Development)?;
-    checked_in(alloc, &bytes)
+    checked_in(alloc, bytes)
 }
 
 /// The answer to a command.
@@ -105,16 +115,23 @@ fn command_answer<R: Threads + Sync, I: Inputs, G: Gate>(
     inputs: &mut I,
     command: Command<'_>,
     gate: &G,
-) -> Result<Vec<u8>, Refusal>
+) -> Result<Output, Refusal>
+    requires { HasWorkers command }
     ensures same { I.told inputs.new ≡ I.told inputs.old }
+    ensures left { files_of (command_view command.entry) ≡ []
+        → (I.left inputs.new ≡ I.left inputs.old) × (I.faults inputs.new ≡ I.faults inputs.old) }
     ensures answers { AnswersCommand (I.told inputs.old) (command_view command.entry)
-        (I.faults inputs.old) (I.faults inputs.new) (answer_view result) }
+        (I.faults inputs.old) (I.faults inputs.new) (output_view result) }
+    ensures fixed { IsFixed (command_view command.entry) (output_view result) }
 {
     match command {
-        Command::Convert(names) => convert(rt, alloc, inputs, names, gate),
-        Command::Steps(names) => steps(rt, alloc, inputs, names, gate),
-        Command::Extract(names) => problems(alloc, inputs, names),
-        Command::Check(name) => check(alloc, inputs, name),
+        Command::Convert { names, workers, .. } => {
+            made(convert(rt, alloc, inputs, names, workers, gate))
+        }
+        Command::Steps { names, workers } => made(steps(rt, alloc, inputs, names, workers, gate)),
+        Command::Extract(names) => made(problems(alloc, inputs, names)),
+        Command::Check(name) => made(check(alloc, inputs, name)),
+        Command::Help => Ok(Output::Fixed(usage())),
     }
 }
 
@@ -125,14 +142,20 @@ pub fn answer<R: Threads + Sync, I: Inputs, G: Gate>(
     words: &[String],
     inputs: &mut I,
     gate: &G,
-) -> Result<Vec<u8>, Refusal>
+) -> Result<Output, Refusal>
     ensures same { I.told inputs.new ≡ I.told inputs.old }
-    ensures left { command_of (texts words.now) ≡ None → I.left inputs.new ≡ I.left inputs.old }
-    ensures answers { Answers (I.told inputs.old) (command_of (texts words.now))
-        (I.faults inputs.old) (I.faults inputs.new) (answer_view result) }
+    ensures left { files_asked (asked_of (texts words.now)) ≡ []
+        → (I.left inputs.new ≡ I.left inputs.old) × (I.faults inputs.new ≡ I.faults inputs.old) }
+    ensures answers { Answers (I.told inputs.old) (asked_of (texts words.now))
+        (I.faults inputs.old) (I.faults inputs.new) (output_view result) }
+    ensures fixed { IfSome (asked_of (texts words.now)) (λ command.
+        IsFixed command (output_view result)) }
+    ensures memory { asked_of (texts words.now) ≡ None → IsMemory (output_view result)
+        → asks_command (texts words.now) ≡ true }
 {
-    match asked_command(words) {
-        Some(command) => command_answer(rt, alloc, inputs, command, gate),
-        None => Err(Refusal::Words),
+    match asked_command(alloc, words) {
+        Ok(Some(command)) => command_answer(rt, alloc, inputs, command, gate),
+        Ok(None) => Err(Refusal::Words),
+        Err(_) => Err(Refusal::Memory),
     }
 }

@@ -25,11 +25,11 @@ fn told_development(found: Result<Dev, LpFault>) -> Result<Dev, Refusal>
     }
 }
 
-/// The development that the bytes of a file are read as.
-fn development_in(alloc: Global, bytes: &[u8]) -> Result<Dev, Refusal>
-    ensures { Answered (IsDevelopmentIn bytes.now) result }
+/// The development that the bytes of a file are read as. They are dropped as soon as it is read.
+fn development_in(alloc: Global, bytes: Vec<u8>) -> Result<Dev, Refusal>
+    ensures { Answered (IsDevelopmentIn bytes.items) result }
 {
-    told_development(read_dev(alloc, bytes))
+    told_development(read_dev(alloc, &bytes))
 }
 
 fn check_told(fault: CheckFault) -> Refusal
@@ -90,8 +90,8 @@ fn checked(alloc: Global, development: &Dev) -> Result<Vec<u8>, Refusal>
 }
 
 /// The same of the development that the bytes of a file are read as.
-pub fn checked_in(alloc: Global, bytes: &[u8]) -> Result<Vec<u8>, Refusal>
-    ensures { Answered (IsCheckedIn bytes.now) (answer_view result) }
+pub fn checked_in(alloc: Global, bytes: Vec<u8>) -> Result<Vec<u8>, Refusal>
+    ensures { Answered (IsCheckedIn bytes.items) (answer_view result) }
 {
     let development = development_in(alloc, bytes)?;
     checked(alloc, &development)

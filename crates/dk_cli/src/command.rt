@@ -1,8 +1,12 @@
-//! The words of the command line.
-ghost use Rattle.std.specs.Prelude.{◌≡◌};
-ghost use Rattle.std.specs.Option.{option_map};
-ghost use Rattle.dk_cli.specs.Commands.{texts, command_of, command_on, command_on_file, is_file_name};
-ghost use Rattle.dk_cli.specs.Steps.{command_view, names_view};
+//! What the words of the command line ask for, of what is built.
+ghost use Rattle.std.specs.Prelude.{◌≡◌, false, IfOk, IfSome, IsOk, option_map};
+ghost use Rattle.words.specs.Reading.{asks_command};
+ghost use Rattle.words.specs.Views.{texts, words_view};
+ghost use Rattle.dk_cli.specs.Commands.{asked_of, built};
+ghost use Rattle.dk_cli.specs.Views.{AsksWorkers, HasWorkers, command_view};
+
+use std::alloc::{AllocError, Global};
+use words::{Words, read_words};
 
 /// The names of a problem's file and of a trace's.
 #[derive(Clone, Copy)]
@@ -11,69 +15,68 @@ pub struct Names<'a> {
     pub trace: &'a str,
 }
 
-/// A command, with the names of its files.
+/// A command with its files, or the usage text.
 #[derive(Clone, Copy)]
 pub enum Command<'a> {
-    Convert(Names<'a>),
-    Steps(Names<'a>),
+    Convert {
+        names: Names<'a>,
+        limit: u64,
+        workers: u32,
+    },
+    Steps {
+        names: Names<'a>,
+        workers: u32,
+    },
     Extract(Names<'a>),
     Check(&'a str),
+    Help,
 }
 
-/// Whether a word names a file: one that begins with `-` and goes on does not.
-fn names_file(word: &str) -> bool
-    ensures { result ≡ is_file_name word.now }
+fn built_command<'a>(asked: Words<'a>) -> Option<Command<'a>>
+    requires { AsksWorkers (words_view asked) }
+    ensures view { option_map command_view result ≡ built (words_view asked.entry) }
+    ensures workers { IfSome result HasWorkers }
 {
-    match word.as_bytes() {
-        [first, _, ..] => *first != b'-',
-        _ => true,
+    match asked {
+        Words::Convert {
+            problem,
+            trace,
+            limit,
+            workers,
+        } => Some(Command::Convert {
+            names: Names { problem, trace },
+            limit,
+            workers,
+        }),
+        Words::Steps {
+            problem,
+            trace,
+            workers,
+        } => Some(Command::Steps {
+            names: Names { problem, trace },
+            workers,
+        }),
+        Words::Extract { problem, trace, .. } => Some(Command::Extract(Names { problem, trace })),
+        Words::Check { file } => Some(Command::Check(file)),
+        Words::Help => Some(Command::Help),
+        Words::Expansion { .. } | Words::Generate { .. } => None,
     }
 }
 
-/// The command on a problem and a trace that a word asks for.
-fn named_command<'a>(word: &str, names: Names<'a>) -> Option<Command<'a>>
-    ensures { option_map command_view result ≡ command_on word.now (names_view names.entry) }
+/// What the words ask for: nothing where they are none of the program's forms, or where the command
+/// is not built yet. It takes memory only where the first word is a command's.
+pub fn asked_command<'a>(
+    alloc: Global,
+    words: &'a [String],
+) -> Result<Option<Command<'a>>, AllocError>
+    ensures view { IfOk result (λ asked.
+        option_map command_view asked ≡ asked_of (texts words.entry.now)) }
+    ensures workers { IfOk result (λ asked. IfSome asked HasWorkers) }
+    ensures settled { asks_command (texts words.entry.now) ≡ false → IsOk result }
 {
-    match word {
-        "convert" => Some(Command::Convert(names)),
-        "steps" => Some(Command::Steps(names)),
-        "extract" => Some(Command::Extract(names)),
-        _ => None,
-    }
-}
-
-/// The command on one file that a word asks for.
-fn single_command<'a>(word: &str, file: &'a str) -> Option<Command<'a>>
-    ensures { option_map command_view result ≡ command_on_file word.now file.now }
-{
-    match word {
-        "check" => Some(Command::Check(file)),
-        _ => None,
-    }
-}
-
-/// What the words ask for.
-pub fn asked_command(words: &[String]) -> Option<Command<'_>>
-    ensures { option_map command_view result ≡ command_of (texts words.now) }
-{
-    match words {
-        [word, problem, trace] => {
-            let problem = problem.as_str();
-            let trace = trace.as_str();
-            if names_file(problem) && names_file(trace) {
-                named_command(word.as_str(), Names { problem, trace })
-            } else {
-                None
-            }
-        }
-        [word, file] => {
-            let file = file.as_str();
-            if names_file(file) {
-                single_command(word.as_str(), file)
-            } else {
-                None
-            }
-        }
-        _ => None,
+    let read = read_words(alloc, words)?;
+    match read {
+        Some(asked) => Ok(built_command(asked)),
+        None => Ok(None),
     }
 }

@@ -1,5 +1,5 @@
 //! What `convert` makes of a derivation: a text, or the first refusal.
-ghost use Rattle.std.specs.Prelude.{◌≡◌, All, map, Ok, IfOk, OnOk};
+ghost use Rattle.std.specs.Prelude.{◌≡◌, ◌<◌, All, map, Ok, IfOk, OnOk};
 ghost use Rattle.flat_form.specs.Flat.{IsFlatProblem, IsFlatTrace, is_false};
 ghost use Rattle.dk_cli.specs.Conversion.{HasName, IsBuilt, IsDeveloped, IsFlatDeveloped, IsPlanIn, IsRootIn, IsWritten, barred, is_conjecture, names_conjecture, plan_refusal};
 ghost use Rattle.dk_cli.specs.Stages.{Answered, told_by};
@@ -135,12 +135,14 @@ pub fn developed<R: Threads + Sync, G: Gate>(
     rt: &R,
     alloc: Global,
     derivation: &Derivation,
+    workers: u32,
     gate: &G,
 ) -> Result<Vec<u8>, Refusal>
-    requires { IsDerived derivation.now }
+    requires derived { IsDerived derivation.now }
+    requires workers { 0 < workers }
     ensures { Answered (IsDeveloped derivation.now) (answer_view result) }
 {
     let root = root_in(alloc, &derivation.problem, &derivation.trace)?;
-    judged(rt, alloc, derivation, gate)?;
+    judged(rt, alloc, derivation, workers, gate)?;
     flat_developed(alloc, derivation, root)
 }

@@ -103,8 +103,8 @@ fn derived_by(alloc: Global, problem: Problem, trace: Trace) -> Result<Derivatio
 }
 
 /// The derivation that the bytes of two files hold, or the first refusal.
-pub fn derivation_in(alloc: Global, problem: &[u8], trace: &[u8]) -> Result<Derivation, Refusal>
-    ensures answer { Answered (IsDerivationIn problem.now trace.now) result }
+pub fn derivation_in(alloc: Global, problem: Vec<u8>, trace: Vec<u8>) -> Result<Derivation, Refusal>
+    ensures answer { Answered (IsDerivationIn problem.items trace.items) result }
     ensures derived { IfOk result IsDerived }
 {
     let problem = problem_in(alloc, problem)?;

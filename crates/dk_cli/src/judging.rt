@@ -1,5 +1,5 @@
 //! The verdicts on the steps of a derivation.
-ghost use Rattle.std.specs.Prelude.{IfOk};
+ghost use Rattle.std.specs.Prelude.{◌<◌, IfOk};
 ghost use Rattle.dk_cli.specs.Judging.{AreRight, HasVerdicts, IsJudged};
 ghost use Rattle.dk_cli.specs.Stages.{Answered};
 ghost use Rattle.dk_cli.specs.StepReport.{IsReported};
@@ -14,16 +14,15 @@ use std::alloc::Global;
 use std::thread::Threads;
 use step_check::{Verdict, Verdicts, first_bad, judge_all};
 
-/// How many workers judge.
-const WORKERS: u32 = 4;
-
 fn verdicts_on<R: Threads + Sync, G: Gate>(
     rt: &R,
     alloc: Global,
     derivation: &Derivation,
+    workers: u32,
     gate: &G,
 ) -> Result<Verdicts, NoMemory>
-    requires { IsDerived derivation.now }
+    requires derived { IsDerived derivation.now }
+    requires workers { 0 < workers }
     ensures { IfOk result (λ verdicts. HasVerdicts derivation.now verdicts.list) }
 {
     let Derivation {
@@ -31,7 +30,7 @@ fn verdicts_on<R: Threads + Sync, G: Gate>(
         trace,
         graph,
     } = derivation;
-    judge_all(rt, alloc, problem, trace, graph, WORKERS, gate)
+    judge_all(rt, alloc, problem, trace, graph, workers, gate)
 }
 
 /// Whether no step is wrong or over a limit, or the first that is.
@@ -58,12 +57,14 @@ pub fn judged<R: Threads + Sync, G: Gate>(
     rt: &R,
     alloc: Global,
     derivation: &Derivation,
+    workers: u32,
     gate: &G,
 ) -> Result<(), Refusal>
-    requires { IsDerived derivation.now }
+    requires derived { IsDerived derivation.now }
+    requires workers { 0 < workers }
     ensures { Answered (IsJudged derivation.now) result }
 {
-    let verdicts = verdicts_on(rt, alloc, derivation, gate)?;
+    let verdicts = verdicts_on(rt, alloc, derivation, workers, gate)?;
     all_right(alloc, &verdicts)
 }
 
@@ -72,12 +73,14 @@ pub fn reported<R: Threads + Sync, G: Gate>(
     rt: &R,
     alloc: Global,
     derivation: &Derivation,
+    workers: u32,
     gate: &G,
 ) -> Result<Vec<u8>, Refusal>
-    requires { IsDerived derivation.now }
+    requires derived { IsDerived derivation.now }
+    requires workers { 0 < workers }
     ensures { Answered (IsReported derivation.now) (answer_view result) }
 {
-    let verdicts = verdicts_on(rt, alloc, derivation, gate)?;
+    let verdicts = verdicts_on(rt, alloc, derivation, workers, gate)?;
     let text = step_lines(alloc, &derivation.trace, &verdicts)?;
     Ok(text)
 }

@@ -23,10 +23,11 @@ fn told_text(file: File, found: Result<Seq<Item>, TptpFault>) -> Result<Seq<Item
     }
 }
 
-fn items_in(alloc: Global, bytes: &[u8], file: File) -> Result<Seq<Item>, Refusal>
-    ensures { Answered (IsText file bytes.now) result }
+// the bytes are dropped as soon as the items are read
+fn items_in(alloc: Global, bytes: Vec<u8>, file: File) -> Result<Seq<Item>, Refusal>
+    ensures { Answered (IsText file bytes.items) result }
 {
-    told_text(file, read_items(alloc, bytes))
+    told_text(file, read_items(alloc, &bytes))
 }
 
 fn problem_told(fault: ProblemFault) -> Refusal
@@ -96,16 +97,16 @@ fn told_trace(found: Result<Trace, TraceFault>) -> Result<Trace, Refusal>
 }
 
 /// The problem that the bytes of its file are.
-pub fn problem_in(alloc: Global, bytes: &[u8]) -> Result<Problem, Refusal>
-    ensures { Answered (IsProblemIn bytes.now) result }
+pub fn problem_in(alloc: Global, bytes: Vec<u8>) -> Result<Problem, Refusal>
+    ensures { Answered (IsProblemIn bytes.items) result }
 {
     let items = items_in(alloc, bytes, File::Problem)?;
     told_problem(problem_from(alloc, items))
 }
 
 /// The trace that the bytes of its file are.
-pub fn trace_in(alloc: Global, bytes: &[u8]) -> Result<Trace, Refusal>
-    ensures answer { Answered (IsTraceIn bytes.now) result }
+pub fn trace_in(alloc: Global, bytes: Vec<u8>) -> Result<Trace, Refusal>
+    ensures answer { Answered (IsTraceIn bytes.items) result }
     ensures names { IfOk result (λ trace. AreDistinct (names_of trace)) }
     ensures parents { IfOk result (λ trace. HaveFitParents trace.steps) }
 {

@@ -1,17 +1,21 @@
 //! The top call: an answer, written or told.
-ghost use Rattle.std.specs.Prelude.{◌≡◌, ℕ, List, ◌<◌, ◌⊎◌, ◌↔◌, None, Some, IfSome};
+ghost use Rattle.std.specs.Prelude.{◌≡◌, ℕ, List, [], ◌<◌, ◌⊎◌, None, Some, IfSome};
 ghost use Rattle.dk_io.specs.Causes.{Rose};
 ghost use Rattle.dk_cli.specs.Checking.{TypesAccepted, WritesTyped};
-ghost use Rattle.dk_cli.specs.Commands.{Names, texts, command_of, check, convert, extract, steps};
+ghost use Rattle.words.specs.Commands.{Names, Text};
+ghost use Rattle.words.specs.Reading.{asks_command};
+ghost use Rattle.words.specs.Views.{texts};
+ghost use Rattle.dk_cli.specs.Commands.{AskAlike, asked_of, check, convert, extract, files_asked, help, steps};
 ghost use Rattle.dk_cli.specs.Delivery.{Delivers, IsRefused, change};
 ghost use Rattle.dk_cli.specs.Extraction.{WritesProblems};
-ghost use Rattle.dk_cli.specs.Headline.{CanCome, CarriesOutEach, DoesOutcome, IsRun, Lacks, NotesByStatus, WritesByStatus};
+ghost use Rattle.dk_cli.specs.Headline.{CanCome, CarriesOutEach, DoesOutcome, IsRun, Lacks, NotesByStatus, RefusesWords, WritesByStatus, WritesUsage};
 ghost use Rattle.dk_cli.specs.Proof.{WritesProof};
 ghost use Rattle.dk_cli.specs.Refusals.{HasNumber};
 ghost use Rattle.dk_cli.specs.StepReport.{WritesLines};
-ghost use Rattle.dk_cli.specs.Steps.{answer_view};
+ghost use Rattle.dk_cli.specs.Views.{output_view};
 
 use crate::answer::answer;
+use crate::output::Output;
 use crate::{Refusal, Status};
 use dk_io::{Gate, Inputs, Notes, Sink, write_all};
 use std::alloc::Global;
@@ -43,16 +47,16 @@ pub fn refuse<N: Notes>(alloc: Global, refusal: &Refusal, notes: &mut N) -> Stat
 // Writes a text, or sends the line of a refusal.
 fn deliver<K: Sink, N: Notes>(
     alloc: Global,
-    answer: Result<Vec<u8>, Refusal>,
+    answer: Result<Output, Refusal>,
     out: &mut K,
     notes: &mut N,
 ) -> Status
-    ensures { Delivers (answer_view answer) result
+    ensures { Delivers (output_view answer) result
         (change (K.kept out.old) (K.kept out.new) (K.faults out.old) (K.faults out.new))
         (change (N.kept notes.old) (N.kept notes.new) (N.faults notes.old) (N.faults notes.new)) }
 {
     match answer {
-        Ok(text) => match write_all(out, &text) {
+        Ok(output) => match write_all(out, output.bytes()) {
             Ok(()) => Status::Done,
             Err(_) => {
                 let _ = notes.line("write fault");
@@ -73,9 +77,10 @@ fn run_answered<R: Threads + Sync, I: Inputs, K: Sink, N: Notes, G: Gate>(
     gate: &G,
 ) -> Status
     ensures same { I.told inputs.new ≡ I.told inputs.old }
-    ensures left { command_of (texts words.now) ≡ None → I.left inputs.new ≡ I.left inputs.old }
-    ensures run { IsRun (I.told inputs.old) (command_of (texts words.now)) (I.faults inputs.old)
-        (I.faults inputs.new) result
+    ensures left { files_asked (asked_of (texts words.now)) ≡ []
+        → (I.left inputs.new ≡ I.left inputs.old) × (I.faults inputs.new ≡ I.faults inputs.old) }
+    ensures run { IsRun (I.told inputs.old) (asks_command (texts words.now))
+        (asked_of (texts words.now)) (I.faults inputs.old) (I.faults inputs.new) result
         (change (K.kept out.old) (K.kept out.new) (K.faults out.old) (K.faults out.new))
         (change (N.kept notes.old) (N.kept notes.new) (N.faults notes.old) (N.faults notes.new)) }
 {
@@ -85,7 +90,9 @@ fn run_answered<R: Threads + Sync, I: Inputs, K: Sink, N: Notes, G: Gate>(
 
 /// Does all that the program does: reads the files that the words name, writes the text of the command to
 /// `out` or one line to `notes`, and answers the status. The words are those of the command line
-/// without the program's name. The steps are judged in four pieces, before each of which the gate is passed once.
+/// without the program's name. The steps are judged in as many pieces as there are workers, before each
+/// of which the gate is passed once; what is done depends on neither. The limit on the weight is read,
+/// and not tested yet.
 pub fn run<R: Threads + Sync, I: Inputs, K: Sink, N: Notes, G: Gate>(
     rt: &R,
     alloc: Global,
@@ -96,28 +103,40 @@ pub fn run<R: Threads + Sync, I: Inputs, K: Sink, N: Notes, G: Gate>(
     gate: &G,
 ) -> Status
     ensures told { I.told inputs.new ≡ I.told inputs.old }
-    ensures run { IsRun (I.told inputs.old) (command_of (texts words.now)) (I.faults inputs.old)
-        (I.faults inputs.new) result
+    ensures run { IsRun (I.told inputs.old) (asks_command (texts words.now))
+        (asked_of (texts words.now)) (I.faults inputs.old) (I.faults inputs.new) result
         (change (K.kept out.old) (K.kept out.new) (K.faults out.old) (K.faults out.new))
         (change (N.kept notes.old) (N.kept notes.new) (N.faults notes.old) (N.faults notes.new)) }
 
     // What can come, and what each status says of the sink and of the notes.
-    ensures statuses { IfSome (command_of (texts words.now)) (λ command. CanCome command result) }
+    ensures statuses { IfSome (asked_of (texts words.now)) (λ command. CanCome command result) }
     ensures sink { WritesByStatus result (change (K.kept out.old) (K.kept out.new)
         (K.faults out.old) (K.faults out.new)) }
     ensures line { NotesByStatus result (change (N.kept notes.old) (N.kept notes.new)
         (N.faults notes.old) (N.faults notes.new)) }
 
-    // Exactly the words that ask for no command are refused as such, and then nothing is read.
-    ensures words { (result ≡ Status.Words) ↔ (command_of (texts words.now) ≡ None) }
-    ensures words_left { result ≡ Status.Words → I.left inputs.new ≡ I.left inputs.old }
-    ensures words_count { result ≡ Status.Words → I.faults inputs.new ≡ I.faults inputs.old }
+    // Words that ask for nothing are refused as such, and no others are. Want of memory may come before
+    // only where the first word is a command's.
+    ensures words { result ≡ Status.Words → asked_of (texts words.now) ≡ None }
+    ensures refused { asked_of (texts words.now) ≡ None
+        → RefusesWords (asks_command (texts words.now)) result }
+
+    // Where the words ask for no file, nothing is read.
+    ensures words_left { files_asked (asked_of (texts words.now)) ≡ []
+        → I.left inputs.new ≡ I.left inputs.old }
+    ensures words_count { files_asked (asked_of (texts words.now)) ≡ []
+        → I.faults inputs.new ≡ I.faults inputs.old }
+
+    // `--help` alone writes the usage text, and takes no memory.
+    ensures help { asked_of (texts words.now) ≡ Some help → WritesUsage result
+        (change (K.kept out.old) (K.kept out.new) (K.faults out.old) (K.faults out.new))
+        (change (N.kept notes.old) (N.kept notes.new) (N.faults notes.old) (N.faults notes.new)) }
 
     // A read fault comes exactly where the inputs' count rose or a file of the command is absent, unless memory ran out.
     ensures read_only { result ≡ Status.ReadFault → Rose (I.faults inputs.old) (I.faults inputs.new)
-        ⊎ Lacks (I.told inputs.old) (command_of (texts words.now)) }
+        ⊎ Lacks (I.told inputs.old) (asked_of (texts words.now)) }
     ensures read_rose { I.faults inputs.old < I.faults inputs.new → result ≡ Status.ReadFault }
-    ensures read_lacks { Lacks (I.told inputs.old) (command_of (texts words.now))
+    ensures read_lacks { Lacks (I.told inputs.old) (asked_of (texts words.now))
         → (result ≡ Status.ReadFault) ⊎ (result ≡ Status.Memory) }
 
     // A write fault comes exactly where the sink's count rose.
@@ -125,35 +144,45 @@ pub fn run<R: Threads + Sync, I: Inputs, K: Sink, N: Notes, G: Gate>(
     ensures write_rose { K.faults out.old < K.faults out.new → result ≡ Status.WriteFault }
 
     // With status 0 what `convert` wrote is a proof of the problem, by the typing rules.
-    ensures proof { (names : Names) → command_of (texts words.now) ≡ Some (convert names)
+    ensures proof { (names : Names) → (limit : ℕ)
+        → asked_of (texts words.now) ≡ Some (convert names limit)
         → result ≡ Status.Done → WritesProof (I.told inputs.old) names
         (change (K.kept out.old) (K.kept out.new) (K.faults out.old) (K.faults out.new)) }
 
     // With status 0 what `steps` wrote are the lines of the verdicts on the steps, right or wrong.
-    ensures lines { (names : Names) → command_of (texts words.now) ≡ Some (steps names)
+    ensures lines { (names : Names) → asked_of (texts words.now) ≡ Some (steps names)
         → result ≡ Status.Done → WritesLines (I.told inputs.old) names
         (change (K.kept out.old) (K.kept out.new) (K.faults out.old) (K.faults out.new)) }
 
     // With status 0 what `extract` wrote are the derived steps as problems.
-    ensures problems { (names : Names) → command_of (texts words.now) ≡ Some (extract names)
+    ensures problems { (names : Names) → asked_of (texts words.now) ≡ Some (extract names)
         → result ≡ Status.Done → WritesProblems (I.told inputs.old) names
         (change (K.kept out.old) (K.kept out.new) (K.faults out.old) (K.faults out.new)) }
 
     // With status 0 `check` wrote `typed` and a newline, and the file is a development that is accepted and typed;
     // of each such file the status is 0.
-    ensures typed { (name : List ℕ) → command_of (texts words.now) ≡ Some (check name)
+    ensures typed { (name : List ℕ) → asked_of (texts words.now) ≡ Some (check name)
         → result ≡ Status.Done → WritesTyped (I.told inputs.old) name
         (change (K.kept out.old) (K.kept out.new) (K.faults out.old) (K.faults out.new)) }
-    ensures accepted { (name : List ℕ) → command_of (texts words.now) ≡ Some (check name)
+    ensures accepted { (name : List ℕ) → asked_of (texts words.now) ≡ Some (check name)
         → TypesAccepted (I.told inputs.old) name (I.faults inputs.old) (I.faults inputs.new) result
         (change (K.kept out.old) (K.kept out.new) (K.faults out.old) (K.faults out.new)) }
 
     // Each status, text and line comes exactly where it is the outcome's.
-    ensures outcome { IfSome (command_of (texts words.now)) (λ command.
+    ensures outcome { IfSome (asked_of (texts words.now)) (λ command.
         DoesOutcome (I.told inputs.old) command (I.faults inputs.old) (I.faults inputs.new) result
         (change (K.kept out.old) (K.kept out.new) (K.faults out.old) (K.faults out.new))
         (change (N.kept notes.old) (N.kept notes.new) (N.faults notes.old) (N.faults notes.new))) }
-    ensures exactly { IfSome (command_of (texts words.now)) (λ command.
+    ensures exactly { IfSome (asked_of (texts words.now)) (λ command.
+        CarriesOutEach (I.told inputs.old) command (I.faults inputs.old) (I.faults inputs.new)
+        result
+        (change (K.kept out.old) (K.kept out.new) (K.faults out.old) (K.faults out.new))
+        (change (N.kept notes.old) (N.kept notes.new) (N.faults notes.old) (N.faults notes.new))) }
+
+    // What other words give that differ in the number of workers alone is carried out too: so no such
+    // number stands in any text, status or line.
+    ensures workers { (other : List Text) → AskAlike (texts words.now) other
+        → IfSome (asked_of other) (λ command.
         CarriesOutEach (I.told inputs.old) command (I.faults inputs.old) (I.faults inputs.new)
         result
         (change (K.kept out.old) (K.kept out.new) (K.faults out.old) (K.faults out.new))

@@ -1,6 +1,8 @@
 //! Worked traces whose every step is listed: what is right and why, and each wrong step by its reason.
 use super::*;
-use crate::tests::{SOUND, run_on};
+use crate::tests::{SOUND, run_on, run_past};
+use dk_io::Gate;
+use std::sync::atomic::{AtomicU64, Ordering};
 use std::test::Fail;
 use std::thread::Threads;
 
@@ -75,7 +77,17 @@ cnf(c,plain,s(f),inference(split_conjunct,[status(thm)],[inference(skolemize,[st
 ];
 
 /// Leaves, symbols that are not new, and steps by several parents.
-const OTHERS: [Row; 6] = [
+const OTHERS: [Row; 7] = [
+    // Names of steps are printed as in TPTP. No root is asked for.
+    Row {
+        problem: "cnf(a1,axiom,p). cnf(a2,axiom,~p).",
+        trace: "cnf(a1,axiom,p,file(x,a1)).
+cnf('C c',plain,q,inference(r,[status(thm)],[a1,a2])).
+cnf(a2,axiom,~p,file(x,a2)).
+fof(7,plain,p&~p,inference(r,[status(thm)],[a1,a2])).
+cnf(g,axiom,p,file(x,zz)).",
+        lines: "1 a1 leaf\n2 'C c' wrong: alien symbol: q\n3 a2 leaf\n4 7 clausal\n5 g wrong: unknown leaf\n",
+    },
     // A leaf is compared up to the names of its variables.
     Row {
         problem: "fof(a,axiom,![X]:p(X)). fof(b,axiom,![X]:p(X)).",
@@ -150,10 +162,14 @@ cnf(c_0_10, negated_conjecture, ($false), inference(sr,[status(thm)],[c_0_8, c_0
     lines: "1 goal conjecture\n2 man leaf\n3 soc leaf\n4 c_0_3 structural\n5 c_0_4 structural\n6 c_0_5 structural\n7 c_0_6 structural\n8 c_0_7 structural\n9 c_0_8 structural\n10 c_0_9 clausal\n11 c_0_10 clausal\n",
 };
 
-fn is_listed<R: Threads + Sync + AllocGlobal>(rt: &R, row: &Row) -> Result<bool, Fail> {
+fn is_listed<R: Threads + Sync + AllocGlobal>(
+    rt: &R,
+    workers: &str,
+    row: &Row,
+) -> Result<bool, Fail> {
     let found = run_on(
         rt,
-        &["steps", "p", "t"],
+        &["steps", "p", "t", "--workers", workers],
         row.problem,
         row.trace.as_bytes(),
         SOUND,
@@ -164,7 +180,7 @@ fn is_listed<R: Threads + Sync + AllocGlobal>(rt: &R, row: &Row) -> Result<bool,
 
 fn are_listed<R: Threads + Sync + AllocGlobal>(rt: &R, rows: &[Row]) -> Result<bool, Fail> {
     for row in rows {
-        if !is_listed(rt, row)? {
+        if !is_listed(rt, "4", row)? {
             return Ok(false);
         }
     }
@@ -180,7 +196,64 @@ fn images_are_listed(rt: HostRuntime) -> Result<(), Fail> {
 #[test]
 fn leaves_and_consequences_are_listed(rt: HostRuntime) -> Result<(), Fail> {
     assert!(rt; are_listed(&rt, &OTHERS)?);
-    assert!(rt; is_listed(&rt, &OF_E)?);
+    for workers in ["1", "2", "64"] {
+        assert!(rt; is_listed(&rt, workers, &OF_E)?);
+    }
+    Ok(())
+}
+
+/// How often a piece looks for the other.
+const TURNS: u32 = 200_000_000;
+
+/// A gate at which two pieces look for each other.
+#[derive(Drop)]
+struct Meeting {
+    came: [AtomicU64; 2],
+    saw: [AtomicU64; 2],
+}
+
+impl Meeting {
+    fn new() -> Meeting {
+        Meeting {
+            came: [AtomicU64::new(0), AtomicU64::new(0)],
+            saw: [AtomicU64::new(0), AtomicU64::new(0)],
+        }
+    }
+
+    /// Whether each piece saw the other.
+    fn is_seen(&self) -> bool {
+        self.saw[0].load(Ordering::SeqCst) == 1 && self.saw[1].load(Ordering::SeqCst) == 1
+    }
+}
+
+impl Gate for Meeting {
+    fn pass(&self, piece: u32) {
+        let (mine, other) = if piece == 0 { (0, 1) } else { (1, 0) };
+        self.came[mine].store(1, Ordering::SeqCst);
+        for _ in 0..TURNS {
+            if self.came[other].load(Ordering::SeqCst) == 1 {
+                self.saw[mine].store(1, Ordering::SeqCst);
+                return;
+            }
+        }
+    }
+}
+
+#[test]
+fn two_pieces_see_each_other(rt: HostRuntime) -> Result<(), Fail> {
+    for (command, status) in [("steps", Status::Done), ("convert", Status::Unbuilt)] {
+        let gate = Meeting::new();
+        let words = [command, "p", "t", "--workers", "2"];
+        let found = run_past(
+            &rt,
+            &words,
+            OF_E.problem,
+            OF_E.trace.as_bytes(),
+            SOUND,
+            &gate,
+        )?;
+        assert!(rt; found.status == status && gate.is_seen());
+    }
     Ok(())
 }
 

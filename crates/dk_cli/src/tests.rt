@@ -1,5 +1,5 @@
 use super::*;
-use dk_io::{MemInputs, MemNotes, MemSink};
+use dk_io::{Gate, MemInputs, MemNotes, MemSink};
 use std::alloc::Global;
 use std::test::Fail;
 use std::thread::Threads;
@@ -16,6 +16,15 @@ symbol goal : Prf p0_p → Prf (not p0_p) → Prf bot ≔ λ (v0 : Prf p0_p), λ
 let v4 : Prf p0_p → Prf bot ≔ λ (v4 : Prf p0_p), v1 v4 in
 let v5 : Prf bot ≔ v3 (λ (v5 : Prf p0_p), v4 v5) in
 v5 bot);
+";
+
+const USAGE: &str = "ekskon convert PROBLEM TRACE [--limit N] [--workers N]
+ekskon steps PROBLEM TRACE [--workers N]
+ekskon extract PROBLEM TRACE [--workers N]
+ekskon expansion PROBLEM TRACE [--limit N] [--workers N]
+ekskon check FILE
+ekskon generate N [--workers N]
+ekskon --help
 ";
 
 /// The front of the prelude.
@@ -88,12 +97,24 @@ pub fn run_on<R: Threads + Sync + AllocGlobal>(
     trace: &[u8],
     outside: Outside,
 ) -> Result<Ran, Fail> {
+    run_past(rt, words, problem, trace, outside, &NoGate)
+}
+
+/// The same, with a gate.
+pub fn run_past<R: Threads + Sync + AllocGlobal, G: Gate>(
+    rt: &R,
+    words: &[&str],
+    problem: &str,
+    trace: &[u8],
+    outside: Outside,
+    gate: &G,
+) -> Result<Ran, Fail> {
     let alloc = rt.alloc();
     let mut inputs = inputs(alloc, problem, trace, outside.read)?;
     let mut out = MemSink::new(alloc, outside.room, vec![in alloc; outside.write]?)?;
     let mut notes = MemNotes::new(alloc, 100, vec![in alloc; outside.note]?)?;
     let line = line_of(alloc, words)?;
-    let status = run(rt, alloc, &line, &mut inputs, &mut out, &mut notes, &NoGate);
+    let status = run(rt, alloc, &line, &mut inputs, &mut out, &mut notes, gate);
     Ok(Ran {
         status,
         out: Vec::from_slice(alloc, out.bytes())?,
@@ -179,30 +200,6 @@ fn wrong_steps_are_named(rt: HostRuntime) -> Result<(), Fail> {
         let trace = joined(rt.alloc(), &parts)?;
         assert!(rt; is_refused(&rt, problem, trace.as_str(), status, line)?);
     }
-    Ok(())
-}
-
-#[test]
-fn steps_are_listed_right_or_wrong(rt: HostRuntime) -> Result<(), Fail> {
-    let trace = joined(
-        rt.alloc(),
-        &[
-            LEAVES,
-            "cnf('C c',plain,q,inference(r,[status(thm)],[a1,a2])).\n",
-            "cnf(7,plain,$false,inference(r,[status(thm)],[a1,a2])).\n",
-            "cnf(g,axiom,p,file(x,zz)).\n",
-        ],
-    )?;
-    let bytes = trace.as_str().as_bytes();
-    let found = run_on(&rt, &["steps", "p", "t"], PROBLEM, bytes, SOUND)?;
-    let lines =
-        "1 a1 leaf\n2 a2 leaf\n3 'C c' wrong: alien symbol: q\n4 7 clausal\n5 g wrong: unknown leaf\n";
-    assert!(rt; found.status == Status::Done && found.notes.is_empty());
-    assert!(rt; found.out.as_slice() == lines.as_bytes());
-
-    // No root is asked for.
-    let found = run_on(&rt, &["steps", "p", "t"], PROBLEM, LEAVES.as_bytes(), SOUND)?;
-    assert!(rt; found.out.as_slice() == "1 a1 leaf\n2 a2 leaf\n".as_bytes());
     Ok(())
 }
 
@@ -316,6 +313,48 @@ fn limits_are_met(rt: HostRuntime) -> Result<(), Fail> {
     Ok(())
 }
 
+/// Equivalences nested to the right.
+fn tower(alloc: Global, levels: usize) -> Result<String, Fail> {
+    let mut text = String::new(alloc);
+    for _level in 0..levels {
+        text.push_str("p<=>(")?;
+    }
+    text.push_str("p")?;
+    for _level in 0..levels {
+        text.push_str(")")?;
+    }
+    Ok(text)
+}
+
+/// Whether a leaf of that formula is listed by this line, behind the sound trace.
+fn is_listed_last<R: Threads + Sync + AllocGlobal>(
+    rt: &R,
+    formula: &str,
+    line: &str,
+) -> Result<bool, Fail> {
+    let problem = joined(rt.alloc(), &[PROBLEM, "fof(e,axiom,", formula, ")."])?;
+    let trace = joined(
+        rt.alloc(),
+        &[LEAVES, END, "fof(e,axiom,", formula, ",file(x,e))."],
+    )?;
+    let bytes = trace.as_str().as_bytes();
+    let found = run_on(rt, &["steps", "p", "t"], problem.as_str(), bytes, SOUND)?;
+    Ok(found.status == Status::Done && found.out.as_slice().ends_with(line.as_bytes()))
+}
+
+#[test]
+fn limits_of_forms_are_told(rt: HostRuntime) -> Result<(), Fail> {
+    let within = tower(rt.alloc(), 12)?;
+    assert!(rt; is_listed_last(&rt, within.as_str(), "4 e leaf\n")?);
+    let clauses = tower(rt.alloc(), 13)?;
+    assert!(rt; is_listed_last(&rt, clauses.as_str(), "4 e over: clauses\n")?);
+    let nodes = tower(rt.alloc(), 15)?;
+    assert!(rt; is_listed_last(&rt, nodes.as_str(), "4 e over: normal form\n")?);
+    let literals = joined(rt.alloc(), &["(", within.as_str(), ")|(q|(q|(q|q)))"])?;
+    assert!(rt; is_listed_last(&rt, literals.as_str(), "4 e over: literals\n")?);
+    Ok(())
+}
+
 #[test]
 fn each_call_of_the_outside_may_fail(rt: HostRuntime) -> Result<(), Fail> {
     let whole = run_outside(&rt, SOUND)?;
@@ -408,13 +447,19 @@ fn developments_are_typed_or_their_first_fault_is_named(rt: HostRuntime) -> Resu
 
 #[test]
 fn words_and_files_are_looked_for(rt: HostRuntime) -> Result<(), Fail> {
-    let rows: [&[&str]; 6] = [
+    let rows: [&[&str]; 12] = [
         &[],
         &["frob"],
         &["convert", "p"],
         &["convert", "p", "t", "t"],
         &["convert", "-p", "t"],
-        &["--help"],
+        &["convert", "p", "t", "--limit", "0"],
+        &["convert", "p", "t", "--workers=65"],
+        &["convert", "p", "t", "--limit", "5", "--limit", "6"],
+        &["steps", "p", "t", "--limit", "5"],
+        &["--help", "p"],
+        &["expansion", "p", "t"],
+        &["generate", "7"],
     ];
     for words in rows {
         let found = run_on(&rt, words, "", b"", SOUND)?;
@@ -423,9 +468,20 @@ fn words_and_files_are_looked_for(rt: HostRuntime) -> Result<(), Fail> {
     let found = run_on(&rt, &[], "", b"", Outside { note: 1, ..SOUND })?;
     assert!(rt; found.is_refusal(Status::Words, ""));
 
-    let found = run_on(&rt, &["convert", "p", "q"], PROBLEM, b"", SOUND)?;
-    assert!(rt; found.is_refusal(Status::ReadFault, "read fault: trace\n"));
-    let found = run_on(&rt, &["convert", "q", "t"], PROBLEM, b"", SOUND)?;
-    assert!(rt; found.is_refusal(Status::ReadFault, "read fault: problem\n"));
+    let found = run_on(&rt, &["--help"], "", b"", SOUND)?;
+    assert!(rt; found.status == Status::Done && found.notes.is_empty());
+    assert!(rt; found.out.as_slice() == USAGE.as_bytes());
+
+    let rows: [(&[&str], &str); 4] = [
+        (&["convert", "--limit=65", "--", "p", "q"], "trace"),
+        (&["convert", "p", "q"], "trace"),
+        (&["extract", "p", "q", "--workers", "64"], "trace"),
+        (&["steps", "q", "t"], "problem"),
+    ];
+    for (words, file) in rows {
+        let found = run_on(&rt, words, PROBLEM, b"", SOUND)?;
+        let line = joined(rt.alloc(), &["read fault: ", file, "\n"])?;
+        assert!(rt; found.is_refusal(Status::ReadFault, line.as_str()));
+    }
     Ok(())
 }

@@ -1,10 +1,9 @@
-use Rattle.std.proofs.Common.{[], ◌∷◌, Err, ap, subst, sym, ◌∙◌}
+use Rattle.std.proofs.Common.{[], ◌∷◌, Err, ap, sym, ◌∙◌}
 use Rattle.std.proofs.lemmas.Result.{err_from_is_err_and}
 use Rattle.dk_cli.specs.Answer.{IsOfDevelopment, LacksOneOf}
 use Rattle.dk_cli.specs.Checking.{IsCheckedIn}
 use Rattle.dk_cli.specs.Commands.{check}
 use Rattle.dk_cli.specs.Derivations.{IsFile}
-use Rattle.dk_cli.specs.Stages.{Answered}
 use Rattle.dk_cli.specs.Steps.{answer_view}
 use Rattle.dk_cli.specs.declared.refusal.File.TheVariants.{Development}
 use Rattle.dk_cli.proofs.CheckLaws.{IsOfCheck, after_file, checked_in_later}
@@ -28,4 +27,4 @@ returns-clause-answers g c =
     answers_command told (check name) _ _ (answer_view c.checked_in.result)
     (goes_on_told told (LacksOneOf told (name ∷ [])) IsOfDevelopment (λ files. IsFile Development (files name)) IsCheckedIn _ _ IsOfCheck after_file (answer_view c.read_file.result) c.in_ok-bytes.bytes.items (answer_view c.checked_in.result)
     (ap answer_view c.in_ok-bytes.was) (file_answers told name Development _ _ c.read_file.result c.read_file.ensures.reads) (checked_in_later c.in_ok-bytes.bytes.items)
-    (subst (λ bytes. Answered (IsCheckedIn bytes) (answer_view c.checked_in.result)) c.deref.ensures.value c.checked_in.ensures))
+    c.checked_in.ensures)

@@ -1,8 +1,6 @@
-use Rattle.std.proofs.Common.{Err, ap, subst, sym, ◌∙◌}
+use Rattle.std.proofs.Common.{Err, ap, sym, ◌∙◌}
 use Rattle.std.proofs.lemmas.Result.{err_from_is_err_and}
-use Rattle.dk_cli.specs.Derivations.{IsDerivationIn}
-use Rattle.dk_cli.specs.Stages.{Answered}
-use Rattle.dk_cli.specs.Steps.{names_view}
+use Rattle.dk_cli.specs.Views.{names_view}
 use Rattle.dk_cli.proofs.Unread.{derivation_ends, problem_ends, trace_ends}
 use Rattle.dk_cli.proofs.answer.derivation_of.Goals as goal
 
@@ -26,5 +24,4 @@ returns-clause-answers g c =
     c.read_file.result c.read_file-2.result c.in_ok-problem.problem c.in_ok-trace.trace c.derivation_in.result
     c.in_ok-problem.was c.read_file.ensures.reads c.read_file.ensures.same
     c.in_ok-trace.was c.read_file-2.ensures.reads
-    (subst (λ trace. Answered (IsDerivationIn c.in_ok-problem.problem.items trace) c.derivation_in.result) c.deref-2.ensures.value
-    (subst (λ problem. Answered (IsDerivationIn problem c.deref-2.result.now) c.derivation_in.result) c.deref.ensures.value c.derivation_in.ensures.answer))
+    c.derivation_in.ensures.answer

@@ -4,7 +4,8 @@ use Rattle.dk_cli.specs.Answer.{IsOfTrace, LacksOneOf}
 use Rattle.dk_cli.specs.Commands.{extract, files_of_names}
 use Rattle.dk_cli.specs.Extraction.{IsExtracted}
 use Rattle.dk_cli.specs.Derivations.{IsDerivationAt}
-use Rattle.dk_cli.specs.Steps.{answer_view, names_view}
+use Rattle.dk_cli.specs.Steps.{answer_view}
+use Rattle.dk_cli.specs.Views.{names_view}
 use Rattle.dk_cli.proofs.Continued.{after_derivation, answers_command, goes_on_told, stops_told}
 use Rattle.dk_cli.proofs.DerivationLaws.{IsLater}
 use Rattle.dk_cli.proofs.Extracted.{extracted_later}

@@ -8,20 +8,20 @@ use Rattle.dk_cli.proofs.derivation.derivation_in.Goals as goal
 pub returns-in_err-problem-clause-answer : goal.returns-in_err-problem-clause-answer
 returns-in_err-problem-clause-answer c =
     let end = err_from_is_err_and c.from_residual.result c.from_residual.ensures.1 in
-    stops (IsProblemIn c.args.problem.now) (λ problem. Follows (IsTraceIn c.args.trace.now) (IsDerivedBy problem)) c.problem_in.result end.0 c.from_residual.result
+    stops (IsProblemIn c.args.problem.items) (λ problem. Follows (IsTraceIn c.args.trace.items) (IsDerivedBy problem)) c.problem_in.result end.0 c.from_residual.result
     (c.in_err-problem.was ∙ ap Err (sym end.2)) end.1 c.problem_in.ensures
 
 pub returns-in_err-trace-clause-answer : goal.returns-in_err-trace-clause-answer
 returns-in_err-trace-clause-answer c =
     let end = err_from_is_err_and c.from_residual-in_err-trace.result c.from_residual-in_err-trace.ensures.1 in
-    goes_on (IsProblemIn c.args.problem.now) (λ problem. Follows (IsTraceIn c.args.trace.now) (IsDerivedBy problem)) c.problem_in.result c.in_ok-problem.problem c.from_residual-in_err-trace.result
+    goes_on (IsProblemIn c.args.problem.items) (λ problem. Follows (IsTraceIn c.args.trace.items) (IsDerivedBy problem)) c.problem_in.result c.in_ok-problem.problem c.from_residual-in_err-trace.result
     c.in_ok-problem.was c.problem_in.ensures
-    (stops (IsTraceIn c.args.trace.now) (IsDerivedBy c.in_ok-problem.problem) c.trace_in.result end.0 c.from_residual-in_err-trace.result
+    (stops (IsTraceIn c.args.trace.items) (IsDerivedBy c.in_ok-problem.problem) c.trace_in.result end.0 c.from_residual-in_err-trace.result
     (c.in_err-trace.was ∙ ap Err (sym end.2)) end.1 c.trace_in.ensures.answer)
 
 pub returns-clause-answer : goal.returns-clause-answer
 returns-clause-answer c =
-    goes_on (IsProblemIn c.args.problem.now) (λ problem. Follows (IsTraceIn c.args.trace.now) (IsDerivedBy problem)) c.problem_in.result c.in_ok-problem.problem c.derived_by.result
+    goes_on (IsProblemIn c.args.problem.items) (λ problem. Follows (IsTraceIn c.args.trace.items) (IsDerivedBy problem)) c.problem_in.result c.in_ok-problem.problem c.derived_by.result
     c.in_ok-problem.was c.problem_in.ensures
-    (goes_on (IsTraceIn c.args.trace.now) (IsDerivedBy c.in_ok-problem.problem) c.trace_in.result c.in_ok-trace.trace c.derived_by.result
+    (goes_on (IsTraceIn c.args.trace.items) (IsDerivedBy c.in_ok-problem.problem) c.trace_in.result c.in_ok-trace.trace c.derived_by.result
     c.in_ok-trace.was c.trace_in.ensures.answer c.derived_by.ensures.answer)

@@ -13,12 +13,12 @@ use Rattle.dk_cli.proofs.reading.trace_in.Goals as goal
 pub returns-in_err-items-clause-answer : goal.returns-in_err-items-clause-answer
 returns-in_err-items-clause-answer c =
     let end = err_from_is_err_and c.from_residual.result c.from_residual.ensures.1 in
-    stops (IsText file.Trace c.args.bytes.now) (λ items. IsToldBy trace_refusal (IsTraceAnswer items)) c.items_in.result end.0 c.from_residual.result
+    stops (IsText file.Trace c.args.bytes.items) (λ items. IsToldBy trace_refusal (IsTraceAnswer items)) c.items_in.result end.0 c.from_residual.result
     (c.in_err-items.was ∙ ap Err (sym end.2)) end.1 c.items_in.ensures
 
 pub returns-clause-answer : goal.returns-clause-answer
 returns-clause-answer c =
-    goes_on (IsText file.Trace c.args.bytes.now) (λ items. IsToldBy trace_refusal (IsTraceAnswer items)) c.items_in.result c.in_ok-items.items c.told_trace.result
+    goes_on (IsText file.Trace c.args.bytes.items) (λ items. IsToldBy trace_refusal (IsTraceAnswer items)) c.items_in.result c.in_ok-items.items c.told_trace.result
     c.in_ok-items.was c.items_in.ensures
     (answered (IsToldBy trace_refusal (IsTraceAnswer c.in_ok-items.items)) c.told_trace.result (c.trace_from.result, c.trace_from.ensures.answer, c.told_trace.ensures))
 

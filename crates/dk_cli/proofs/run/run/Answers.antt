@@ -1,4 +1,4 @@
-use Rattle.dk_cli.proofs.Carried.{can_come, notes_by, read_lacks, read_only, read_rose, some_carries, some_does, words_count, words_if, words_only, writes_by}
+use Rattle.dk_cli.proofs.Carried.{alike_carries, can_come, notes_by, read_lacks, read_only, read_rose, some_carries, some_does, words_if, words_only, writes_by, writes_usage}
 use Rattle.dk_cli.proofs.Proved.{writes_proof}
 use Rattle.dk_cli.proofs.Reported.{writes_lines}
 use Rattle.dk_cli.proofs.Extracted.{writes_problems}
@@ -6,7 +6,7 @@ use Rattle.dk_cli.proofs.Accepted.{types_accepted, writes_typed}
 use Rattle.dk_cli.proofs.run.run.Goals as goal
 
 pub returns-clause-statuses : goal.returns-clause-statuses
-returns-clause-statuses g c = let run = c.run_answered.ensures.run in can_come _ _ _ _ run.answer _ _ _ run.answers run.delivers
+returns-clause-statuses g c = let run = c.run_answered.ensures.run in can_come _ _ _ _ run.answer _ _ _ run.answers run.fixed run.delivers
 
 pub returns-clause-sink : goal.returns-clause-sink
 returns-clause-sink g c = let run = c.run_answered.ensures.run in writes_by _ _ _ _ run.answer _ _ _ run.answers run.delivers
@@ -15,19 +15,19 @@ pub returns-clause-line : goal.returns-clause-line
 returns-clause-line g c = let run = c.run_answered.ensures.run in notes_by run.answer _ _ _ run.delivers
 
 pub returns-clause-words : goal.returns-clause-words
-returns-clause-words g c =
-    let run = c.run_answered.ensures.run in
-    (words_only _ _ _ _ run.answer _ _ _ run.answers run.delivers, words_if _ _ _ _ run.answer _ _ _ run.answers run.delivers)
+returns-clause-words g c = λ e. let run = c.run_answered.ensures.run in words_only _ _ _ _ run.answer _ _ _ run.answers run.delivers e
+
+pub returns-clause-refused : goal.returns-clause-refused
+returns-clause-refused g c = λ e. let run = c.run_answered.ensures.run in words_if _ _ _ _ _ run.answer _ _ _ run.answers run.memory run.delivers e
 
 pub returns-clause-words_left : goal.returns-clause-words_left
-returns-clause-words_left g c = λ e.
-    let run = c.run_answered.ensures.run in
-    c.run_answered.ensures.left (words_only _ _ _ _ run.answer _ _ _ run.answers run.delivers e)
+returns-clause-words_left g c = λ e. (c.run_answered.ensures.left e).0
 
 pub returns-clause-words_count : goal.returns-clause-words_count
-returns-clause-words_count g c = λ e.
-    let run = c.run_answered.ensures.run in
-    words_count _ _ _ _ run.answer run.answers (words_only _ _ _ _ run.answer _ _ _ run.answers run.delivers e)
+returns-clause-words_count g c = λ e. (c.run_answered.ensures.left e).1
+
+pub returns-clause-help : goal.returns-clause-help
+returns-clause-help g c = λ asked. let run = c.run_answered.ensures.run in writes_usage _ run.answer _ _ _ run.fixed run.delivers asked
 
 pub returns-clause-outcome : goal.returns-clause-outcome
 returns-clause-outcome g c = let run = c.run_answered.ensures.run in some_does _ _ _ _ run.answer _ _ _ run.answers run.delivers
@@ -42,7 +42,7 @@ pub returns-clause-read_lacks : goal.returns-clause-read_lacks
 returns-clause-read_lacks g c = λ lacks. let run = c.run_answered.ensures.run in read_lacks _ _ _ _ run.answer _ _ _ run.answers run.delivers lacks
 
 pub returns-clause-proof : goal.returns-clause-proof
-returns-clause-proof g c = λ names asked done. let run = c.run_answered.ensures.run in writes_proof _ _ _ _ run.answer _ _ _ run.answers run.delivers names asked done
+returns-clause-proof g c = λ names limit asked done. let run = c.run_answered.ensures.run in writes_proof _ _ _ _ run.answer _ _ _ run.answers run.delivers names limit asked done
 
 pub returns-clause-read_only : goal.returns-clause-read_only
 returns-clause-read_only g c = λ fault. let run = c.run_answered.ensures.run in read_only _ _ _ _ run.answer _ _ _ run.answers run.delivers fault
@@ -58,3 +58,6 @@ returns-clause-typed g c = λ name asked done. let run = c.run_answered.ensures.
 
 pub returns-clause-accepted : goal.returns-clause-accepted
 returns-clause-accepted g c = λ name asked. let run = c.run_answered.ensures.run in types_accepted _ _ _ _ run.answer _ _ _ run.answers run.delivers name asked
+
+pub returns-clause-workers : goal.returns-clause-workers
+returns-clause-workers g c = λ other alike. let run = c.run_answered.ensures.run in alike_carries _ _ other _ _ run.answer _ _ _ run.answers run.delivers alike

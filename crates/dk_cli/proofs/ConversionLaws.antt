@@ -7,15 +7,18 @@ use Rattle.flat_steps.specs.declared.Instance.{Instance}
 use Rattle.flat_steps.specs.declared.PlanFault.{PlanFault}
 use Rattle.flat_steps.specs.declared.PlanFault.TheVariants as plan_fault
 use Rattle.tstp_trace.specs.declared.Trace.{Trace}
-use Rattle.dk_cli.specs.Conversion.{ArePlanned, IsBuilt, IsDeveloped, IsFlatDeveloped, IsPlanIn, IsRightDeveloped, IsRootIn, IsWritten, plan_refusal}
+use Rattle.dk_cli.specs.Conversion.{ArePlanned, IsBoundedDeveloped, IsBuilt, IsDeveloped, IsFlatDeveloped, IsPlanIn, IsRightDeveloped, IsRootIn, IsWritten, plan_refusal}
+use Rattle.step_check.specs.declared.verdict.Verdicts.{Verdicts}
 use Rattle.dk_cli.specs.Judging.{IsJudged}
 use Rattle.dk_cli.specs.Stages.{Follows}
+use Rattle.dk_cli.specs.Weight.{IsWeighed}
 use Rattle.dk_cli.specs.declared.derivation.Derivation.{Derivation}
 use Rattle.dk_cli.specs.declared.refusal.Refusal.{Refusal}
 use Rattle.dk_cli.specs.declared.refusal.Refusal.TheVariants as refusal
 use Rattle.dk_cli.proofs.DerivationLaws.{IsLater}
 use Rattle.dk_cli.proofs.JudgingLaws.{judged_later}
 use Rattle.dk_cli.proofs.StageLaws.{Only, only_follows, only_told}
+use Rattle.dk_cli.proofs.WeightLaws.{weighed_later}
 
 plan_later : (fault : PlanFault) → IsLater (plan_refusal fault)
 plan_later (plan_fault.Wrong step reason) = tt
@@ -46,9 +49,14 @@ module _ (problem : Problem) (trace : Trace) where
       (built_later problem trace)
       (λ nothing. planned_later graph root)
 
-right_developed_later : (d : Derivation) (root : ℕ) (answer : Result (List ℕ) Refusal) → IsRightDeveloped d root answer → Only IsLater answer
-right_developed_later d root =
-    only_follows IsLater (IsJudged d) (λ nothing. IsFlatDeveloped d.problem d.trace d.graph root) (judged_later d) (λ nothing. flat_later d.problem d.trace d.graph root)
+module _ (d : Derivation) (limit : ℕ) where
+  bounded_later : (root : ℕ) (verdicts : Verdicts) (answer : Result (List ℕ) Refusal) → IsBoundedDeveloped d limit root verdicts answer → Only IsLater answer
+  bounded_later root verdicts =
+      only_follows IsLater (IsWeighed d limit root verdicts) (λ nothing. IsFlatDeveloped d.problem d.trace d.graph root) (weighed_later d limit root verdicts)
+      (λ nothing. flat_later d.problem d.trace d.graph root)
 
-pub developed_later : (d : Derivation) (answer : Result (List ℕ) Refusal) → IsDeveloped d answer → Only IsLater answer
-developed_later d = only_follows IsLater (IsRootIn d.problem d.trace) (IsRightDeveloped d) (root_later d.problem d.trace) (right_developed_later d)
+  right_developed_later : (root : ℕ) (answer : Result (List ℕ) Refusal) → IsRightDeveloped d limit root answer → Only IsLater answer
+  right_developed_later root = only_follows IsLater (IsJudged d) (IsBoundedDeveloped d limit root) (judged_later d) (bounded_later root)
+
+  pub developed_later : (answer : Result (List ℕ) Refusal) → IsDeveloped limit d answer → Only IsLater answer
+  developed_later = only_follows IsLater (IsRootIn d.problem d.trace) (IsRightDeveloped d limit) (root_later d.problem d.trace) right_developed_later

@@ -10,8 +10,9 @@ use Rattle.step_check.specs.Freshness.{IsBadAt, IsBadFirst, IsFirstBad, freshene
 use Rattle.step_check.specs.Steps.{case_of}
 use Rattle.step_check.specs.declared.verdict.Verdict.{Verdict}
 use Rattle.step_check.specs.declared.verdict.Verdict.TheVariants as verdict
+use Rattle.step_check.specs.declared.verdict.Verdicts.{Verdicts}
 use Rattle.dk_cli.specs.Judging.{AreRight, HasVerdicts, IsJudged}
-use Rattle.dk_cli.specs.Stages.{Answered}
+use Rattle.dk_cli.specs.Stages.{Answered, Follows}
 use Rattle.dk_cli.specs.StepReport.{IsReported}
 use Rattle.dk_cli.specs.declared.derivation.Derivation.{Derivation}
 use Rattle.dk_cli.specs.declared.refusal.Refusal.{Refusal}
@@ -19,7 +20,7 @@ use Rattle.dk_cli.specs.declared.refusal.Refusal.TheVariants as refusal
 use Rattle.dk_cli.specs.declared.refusal.StepFault.{StepFault}
 use Rattle.dk_cli.specs.declared.refusal.StepFault.TheVariants as step_fault
 use Rattle.dk_cli.proofs.DerivationLaws.{IsLater}
-use Rattle.dk_cli.proofs.StageLaws.{IsOne, Only}
+use Rattle.dk_cli.proofs.StageLaws.{IsOne, Only, found_same, one_of_two, only_follows}
 
 -- ---- the verdict list
 
@@ -83,14 +84,37 @@ one_right list one other h k =
 
 -- ---- the stages
 
+-- what is answered of a verdict list
+abbrev pub AreHandedOn : Verdicts → Result Verdicts Refusal → Type 0
+AreHandedOn verdicts answer = Follows (AreRight verdicts.list) (λ nothing end. end ≡ Ok verdicts) answer
+
 -- the verdicts were told
-pub right_judged : (d : Derivation) (list : List Verdict) (answer : Result Unit Refusal) → HasVerdicts d list → Answered (AreRight list) answer → Answered (IsJudged d) answer
-right_judged d list (Ok nothing) h k = (list, h, k)
-right_judged d list (Err refusal.Memory) h k = tt
-right_judged d list (Err other) h k = (list, h, k)
+pub right_judged : (d : Derivation) (verdicts : Verdicts) (answer : Result Verdicts Refusal) → HasVerdicts d verdicts.list → Answered (AreHandedOn verdicts) answer → Answered (IsJudged d) answer
+right_judged d verdicts (Ok given) h k = (verdicts, h, k)
+right_judged d verdicts (Err refusal.Memory) h k = tt
+right_judged d verdicts (Err other) h k = (verdicts, h, k)
+
+-- verdicts that are handed on are the derivation's, and none is bad
+pub record AreRightOf (d : Derivation) (verdicts : Verdicts) : Type 0 where
+  pub are : HasVerdicts d verdicts.list
+  pub right : IsFirstBad verdicts.list None
+
+pub judged_right : (d : Derivation) (verdicts : Verdicts) → IsJudged d (Ok verdicts) → AreRightOf d verdicts
+judged_right d verdicts (found, h, (Ok nothing, k, e)) = subst (AreRightOf d) (sym (found_same {F = Refusal} verdicts found e)) record { are = h; right = k }
+judged_right d verdicts (found, h, (Err why, k, e)) = absurd cc
+
+one_verdicts : (one other : Verdicts) → one.list ≡ other.list → one ≡ other
+one_verdicts one other e = λ i. record { list = e i }
+
+one_handed : (verdicts : Verdicts) → IsOne refusal.Memory (AreHandedOn verdicts)
+one_handed verdicts =
+    one_of_two (AreRight verdicts.list) (λ nothing end. end ≡ Ok verdicts) (λ one other h k not_one not_other. one_right verdicts.list one other h k)
+    (λ nothing one other h k not_one not_other. h ∙ sym k)
 
 pub one_judged : (d : Derivation) → IsOne refusal.Memory (IsJudged d)
-one_judged d one other (list, h, k) (another, i, j) not_one not_other = one_right list one other k (subst (λ l. AreRight l other) (sym (one_list d list another h i)) j)
+one_judged d one other (verdicts, h, k) (others, i, j) not_one not_other =
+    let same : verdicts ≡ others = one_verdicts verdicts others (one_list d verdicts.list others.list h i) in
+    one_handed verdicts one other k (subst (λ v. AreHandedOn v other) (sym same) j) not_one not_other
 
 pub one_reported : (d : Derivation) → IsOne refusal.Memory (IsReported d)
 one_reported d one other (list, h, k) (another, i, j) not_one not_other = k ∙ ap (λ l. Ok (lines_of d.trace.steps l)) (one_list d list another h i) ∙ sym j
@@ -100,8 +124,9 @@ right_later list (Ok nothing) h = tt
 right_later list (Err (refusal.Step step fault)) h = tt
 right_later list (Err other) h = absurd h
 
-pub judged_later : (d : Derivation) (answer : Result Unit Refusal) → IsJudged d answer → Only IsLater answer
-judged_later d answer (list, h, k) = right_later list answer k
+pub judged_later : (d : Derivation) (answer : Result Verdicts Refusal) → IsJudged d answer → Only IsLater answer
+judged_later d answer (verdicts, h, k) =
+    only_follows IsLater (AreRight verdicts.list) (λ nothing end. end ≡ Ok verdicts) (right_later verdicts.list) (λ nothing end same. subst (Only IsLater) (sym same) tt) answer k
 
 pub reported_later : (d : Derivation) (answer : Result (List ℕ) Refusal) → IsReported d answer → Only IsLater answer
 reported_later d answer (list, h, k) = subst (Only IsLater) (sym k) tt

@@ -11,9 +11,11 @@ pub mod OneFile
 pub mod OneOutcome
 pub mod Proved
 pub mod ReadBack
+pub mod ReadDerivations
 pub mod Reported
 pub mod RootMarks
 pub mod StageLaws
 pub mod Unread
+pub mod WeightLaws
 pub mod WordLaws
 pub mod WordsAnswered

@@ -26,26 +26,22 @@ use Rattle.step_check.specs.Steps.{nodes_of}
 use Rattle.words.specs.Commands.{Names}
 use Rattle.dk_cli.specs.Commands.{Command, convert}
 use Rattle.dk_cli.specs.Delivery.{Change, Delivers}
-use Rattle.dk_cli.specs.Conversion.{ArePlanned, IsBuilt, IsDeveloped, IsFlatDeveloped, IsPlanIn, IsPrinted, IsRightDeveloped, IsRootIn, IsWritten, formulas_of, plan_refusal}
-use Rattle.dk_cli.specs.Derivations.{IsDerivationIn, IsDerivationOf, IsDerivedBy, IsFile, IsGraphIn, IsProblemIn, IsText, IsTraceIn, derivation, graph_refusal, problem_refusal}
+use Rattle.dk_cli.specs.Conversion.{ArePlanned, IsBoundedDeveloped, IsBuilt, IsDeveloped, IsFlatDeveloped, IsPlanIn, IsPrinted, IsRightDeveloped, IsRootIn, IsWritten, formulas_of, plan_refusal}
+use Rattle.dk_cli.specs.Derivations.{IsDerivationOf, IsGraphIn, IsProblemIn, IsText, graph_refusal, problem_refusal}
 use Rattle.dk_cli.specs.Judging.{IsJudged}
 use Rattle.dk_cli.specs.Outcome.{IsOutcome}
 use Rattle.dk_cli.specs.Proof.{IsProofOf, IsProofText, IsReadAlone, WritesProof}
 use Rattle.dk_cli.specs.Stages.{Follows, IsToldBy}
+use Rattle.dk_cli.specs.Weight.{IsWeighed}
 use Rattle.dk_cli.specs.declared.derivation.Derivation.{Derivation}
-use Rattle.dk_cli.specs.declared.refusal.File.{File}
 use Rattle.dk_cli.specs.declared.refusal.File.TheVariants as file
 use Rattle.dk_cli.specs.declared.refusal.Refusal.{Refusal}
 use Rattle.dk_cli.specs.declared.refusal.Status.{Status}
 use Rattle.dk_cli.specs.declared.refusal.Status.TheVariants as status
 use Rattle.dk_cli.proofs.Carried.{refusal_not_done}
 use Rattle.dk_cli.proofs.ReadBack.{read_alone}
+use Rattle.dk_cli.proofs.ReadDerivations.{derivation_read}
 use Rattle.dk_cli.proofs.StageLaws.{follows_found, found_same, told_found}
-
--- a file whose bytes were found
-file_found : (which : File) (found : Option (List ℕ)) (bytes : List ℕ) → IsFile which found (Ok bytes) → found ≡ Some bytes
-file_found which None bytes h = absurd cc
-file_found which (Some others) bytes h = ap Some (sym h.0)
 
 -- a problem that was read has its symbols
 problem_has_symbols : (bytes : List ℕ) (problem : Problem) → IsProblemIn bytes (Ok problem) → HasItsSymbols problem
@@ -106,15 +102,16 @@ plan_text problem steps parents root instances text planned printed same =
     }
 
 -- a text that is developed is that of a proof
-proved_by : (d : Derivation) (text : List ℕ) → HasItsSymbols d.problem → IsGraphIn d.trace (Ok d.graph) → IsDeveloped d (Ok text) → IsProofText d.problem text
-proved_by d text symbols graphed h =
+proved_by : (limit : ℕ) (d : Derivation) (text : List ℕ) → HasItsSymbols d.problem → IsGraphIn d.trace (Ok d.graph) → IsDeveloped limit d (Ok text) → IsProofText d.problem text
+proved_by limit d text symbols graphed h =
     let problem = d.problem in
     let trace = d.trace in
     let graph = d.graph in
-    let rooted = follows_found (IsRootIn problem trace) (IsRightDeveloped d) text h in
+    let rooted = follows_found (IsRootIn problem trace) (IsRightDeveloped d limit) text h in
     let root = rooted.0 in
-    let right = follows_found (IsJudged d) (λ nothing. IsFlatDeveloped problem trace graph root) text rooted.2 in
-    let built = follows_found (IsBuilt problem trace) (λ nothing. Follows (IsPlanIn problem trace graph root) (IsWritten problem)) text right.2 in
+    let right = follows_found (IsJudged d) (IsBoundedDeveloped d limit root) text rooted.2 in
+    let bounded = follows_found (IsWeighed d limit root right.0) (λ nothing. IsFlatDeveloped problem trace graph root) text right.2 in
+    let built = follows_found (IsBuilt problem trace) (λ nothing. Follows (IsPlanIn problem trace graph root) (IsWritten problem)) text bounded.2 in
     let planned = follows_found (IsPlanIn problem trace graph root) (IsWritten problem) text built.2 in
     let derived = told_found graph_refusal (IsGraphAnswer (nodes_of trace)) graph graphed in
     let plans = told_found plan_refusal (ArePlanned problem trace graph root) planned.0 planned.1 in
@@ -129,38 +126,16 @@ record IsReadProof (found : Option (List ℕ)) (text : List ℕ) : Type 0 where
   pub spelled : IsProblemIn bytes (Ok problem)
   pub proof : IsProofText problem text
 
--- what a derivation holds comes from the problem's bytes and has a graph
-record IsRead (found : Option (List ℕ)) (d : Derivation) : Type 0 where
-  pub bytes : List ℕ
-  pub is : found ≡ Some bytes
-  pub spelled : IsProblemIn bytes (Ok d.problem)
-  pub graphed : IsGraphIn d.trace (Ok d.graph)
-
-read_same : (found : Option (List ℕ)) (d : Derivation) (bytes : List ℕ) (problem : Problem) (trace : Trace) (graph : Graph) → found ≡ Some bytes
-    → IsProblemIn bytes (Ok problem) → IsGraphIn trace (Ok graph) → d ≡ derivation problem trace graph → IsRead found d
-read_same found d bytes problem trace graph is spelled graphed same =
-    subst (IsRead found) (sym same) record { bytes = bytes; is = is; spelled = spelled; graphed = graphed }
-
-derivation_read : (found other : Option (List ℕ)) (d : Derivation) → IsDerivationOf found other (Ok d) → IsRead found d
-derivation_read found other d h =
-    let first = follows_found (IsFile file.Problem found) (λ bytes. Follows (IsFile file.Trace other) (IsDerivationIn bytes)) d h in
-    let second = follows_found (IsFile file.Trace other) (IsDerivationIn first.0) d first.2 in
-    let third = follows_found (IsProblemIn first.0) (λ problem. Follows (IsTraceIn second.0) (IsDerivedBy problem)) d second.2 in
-    let fourth = follows_found (IsTraceIn second.0) (IsDerivedBy third.0) d third.2 in
-    let fifth = follows_found (IsGraphIn fourth.0) (λ graph end. end ≡ Ok (derivation third.0 fourth.0 graph)) d fourth.2 in
-    read_same found d first.0 third.0 fourth.0 fifth.0 (file_found file.Problem found first.0 first.1) third.1 fifth.1
-    (found_same {F = Refusal} d (derivation third.0 fourth.0 fifth.0) fifth.2)
-
-proof_text : (found other : Option (List ℕ)) (text : List ℕ) → Follows (IsDerivationOf found other) IsDeveloped (Ok text) → IsReadProof found text
-proof_text found other text h =
-    let first = follows_found (IsDerivationOf found other) IsDeveloped text h in
+proof_text : (limit : ℕ) (found other : Option (List ℕ)) (text : List ℕ) → Follows (IsDerivationOf found other) (IsDeveloped limit) (Ok text) → IsReadProof found text
+proof_text limit found other text h =
+    let first = follows_found (IsDerivationOf found other) (IsDeveloped limit) text h in
     let read = derivation_read found other first.0 first.1 in
     record {
       bytes = read.bytes;
       is = read.is;
       problem = first.0.problem;
       spelled = read.spelled;
-      proof = proved_by first.0 text (problem_has_symbols read.bytes first.0.problem read.spelled) read.graphed first.2;
+      proof = proved_by limit first.0 text (problem_has_symbols read.bytes first.0.problem read.spelled) read.graphed first.2;
     }
 
 -- a text that was written whole
@@ -169,7 +144,7 @@ module _ (told : Told) (names : Names) (limit before now : ℕ) where
       → WritesProof given names out
   writes_text None text out outcome bytes = tt
   writes_text (Some files) text out outcome bytes =
-      let proof = proof_text (files names.problem) (files names.trace) text outcome.given in
+      let proof = proof_text limit (files names.problem) (files names.trace) text outcome.given in
       (proof.bytes, proof.is, (proof.problem, proof.spelled, (text, proof.proof, bytes)))
 
   told_text : (text : List ℕ) → AnswersCommand told (convert names limit) before now (Ok text) → IsTold told (IsOutcome (convert names limit)) (Ok text)

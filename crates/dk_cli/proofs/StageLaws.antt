@@ -67,16 +67,20 @@ module _ {A B : Type 0} (First : Result A Refusal → Type 0) (Next : A → Resu
       why_of other (Ok x) = other
       why_of other (Err r) = r
 
-  continued : ((x : A) → IsOne Memory (Next x)) → (first : Result A Refusal) (one other : Result B Refusal) → Continues Next first one → Continues Next first other
-      → one ≢ Err Memory → other ≢ Err Memory → one ≡ other
-  continued unique (Ok x) one other h k not_one not_other = unique x one other h k not_one not_other
-  continued unique (Err why) one other h k not_one not_other = h ∙ sym k
+  continued : ((x : A) → First (Ok x) → IsOne Memory (Next x)) → (first : Result A Refusal) (one other : Result B Refusal) → First first
+      → Continues Next first one → Continues Next first other → one ≢ Err Memory → other ≢ Err Memory → one ≡ other
+  continued unique (Ok x) one other found h k not_one not_other = unique x found one other h k not_one not_other
+  continued unique (Err why) one other found h k not_one not_other = h ∙ sym k
 
-  pub one_of_two : IsOne Memory First → ((x : A) → IsOne Memory (Next x)) → IsOne Memory (Follows First Next)
-  one_of_two first_unique next_unique one other (first, h, k) (second, i, j) not_one not_other =
+  -- the next stage's answer is one where it goes on from what the first one finds
+  pub one_of_found : IsOne Memory First → ((x : A) → First (Ok x) → IsOne Memory (Next x)) → IsOne Memory (Follows First Next)
+  one_of_found first_unique next_unique one other (first, h, k) (second, i, j) not_one not_other =
       let same : first ≡ second =
       first_unique first second h i (first_definite first one k not_one) (first_definite second other j not_other) in
-      continued next_unique first one other k (subst (λ x. Continues Next x other) (sym same) j) not_one not_other
+      continued next_unique first one other h k (subst (λ x. Continues Next x other) (sym same) j) not_one not_other
+
+  pub one_of_two : IsOne Memory First → ((x : A) → IsOne Memory (Next x)) → IsOne Memory (Follows First Next)
+  one_of_two first_unique next_unique = one_of_found first_unique (λ x found. next_unique x)
 
 -- ---- what an answer can be
 

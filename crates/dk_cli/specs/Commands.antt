@@ -5,8 +5,8 @@ use Rattle.words.specs.Commands.{Names, Text, Command as Words}
 use Rattle.words.specs.Commands as words
 use Rattle.words.specs.Reading.{command_of}
 
--- A command that is built, with its files and the limit on the weight, which is not tested yet; or the usage text. No
--- number of workers stands here.
+-- A command that is built, with its files and the limit on the weight, or the usage text. No number of workers stands
+-- here.
 pub data Command : Type 0 where
   convert : Names → ℕ → Command
   steps : Names → Command

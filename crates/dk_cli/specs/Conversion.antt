@@ -24,8 +24,10 @@ use Rattle.lp_text.specs.Print.{text_of}
 use Rattle.tstp_trace.specs.declared.StepSource.{StepSource}
 use Rattle.tstp_trace.specs.declared.StepSource.TheVariants.{Leaf, Derived}
 use Rattle.tstp_trace.specs.declared.Trace.{Trace}
+use Rattle.step_check.specs.declared.verdict.Verdicts.{Verdicts}
 use Rattle.dk_cli.specs.Judging.{IsJudged}
 use Rattle.dk_cli.specs.Stages.{Follows, IsToldBy}
+use Rattle.dk_cli.specs.Weight.{IsWeighed}
 use Rattle.dk_cli.specs.declared.derivation.Derivation.{Derivation}
 use Rattle.dk_cli.specs.declared.refusal.File.TheVariants as file
 use Rattle.dk_cli.specs.declared.refusal.Refusal.{Refusal}
@@ -103,10 +105,14 @@ abbrev pub IsFlatDeveloped : Problem → Trace → Graph → ℕ → Result (Lis
 IsFlatDeveloped problem trace graph root answer =
     Follows (IsBuilt problem trace) (λ nothing. Follows (IsPlanIn problem trace graph root) (IsWritten problem)) answer
 
--- What a derivation with that root gives: every step is right, also one that the root doesn't need.
-abbrev pub IsRightDeveloped : Derivation → ℕ → Result (List ℕ) Refusal → Type 0
-IsRightDeveloped d root answer = Follows (IsJudged d) (λ nothing. IsFlatDeveloped d.problem d.trace d.graph root) answer
+-- What a derivation with that root and these verdicts gives: what the root needs is within the limits.
+abbrev pub IsBoundedDeveloped : Derivation → ℕ → ℕ → Verdicts → Result (List ℕ) Refusal → Type 0
+IsBoundedDeveloped d limit root verdicts answer = Follows (IsWeighed d limit root verdicts) (λ nothing. IsFlatDeveloped d.problem d.trace d.graph root) answer
 
--- What a derivation gives.
-abbrev pub IsDeveloped : Derivation → Result (List ℕ) Refusal → Type 0
-IsDeveloped d answer = Follows (IsRootIn d.problem d.trace) (IsRightDeveloped d) answer
+-- What a derivation with that root gives: every step is right, also one that the root doesn't need.
+abbrev pub IsRightDeveloped : Derivation → ℕ → ℕ → Result (List ℕ) Refusal → Type 0
+IsRightDeveloped d limit root answer = Follows (IsJudged d) (IsBoundedDeveloped d limit root) answer
+
+-- What a derivation gives, with that limit on the weight.
+abbrev pub IsDeveloped : ℕ → Derivation → Result (List ℕ) Refusal → Type 0
+IsDeveloped limit d answer = Follows (IsRootIn d.problem d.trace) (IsRightDeveloped d limit) answer

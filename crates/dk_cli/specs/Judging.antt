@@ -5,6 +5,8 @@ use Rattle.step_check.specs.Freshness.{AreVerdicts, IsFirstBad}
 use Rattle.step_check.specs.Steps.{case_of}
 use Rattle.step_check.specs.declared.verdict.Verdict.{Verdict}
 use Rattle.step_check.specs.declared.verdict.Verdict.TheVariants as verdict
+use Rattle.step_check.specs.declared.verdict.Verdicts.{Verdicts}
+use Rattle.dk_cli.specs.Stages.{Follows}
 use Rattle.dk_cli.specs.declared.derivation.Derivation.{Derivation}
 use Rattle.dk_cli.specs.declared.refusal.Refusal.{Refusal}
 use Rattle.dk_cli.specs.declared.refusal.Refusal.TheVariants.{Step}
@@ -21,6 +23,6 @@ AreRight verdicts (Err (Step step (Wrong reason))) = IsFirstBad verdicts (Some s
 AreRight verdicts (Err (Step step (Over limit))) = IsFirstBad verdicts (Some step) × (slice_get verdicts (step - 1) ≡ Some (verdict.Over limit))
 AreRight verdicts (Err other) = ⊥
 
--- The same of the derivation's verdicts.
-abbrev pub IsJudged : Derivation → Result Unit Refusal → Type 0
-IsJudged d answer = (verdicts : List Verdict) × HasVerdicts d verdicts × AreRight verdicts answer
+-- The derivation's verdicts where no step is bad, or the first that is.
+abbrev pub IsJudged : Derivation → Result Verdicts Refusal → Type 0
+IsJudged d answer = (verdicts : Verdicts) × HasVerdicts d verdicts.list × Follows (AreRight verdicts.list) (λ nothing end. end ≡ Ok verdicts) answer

@@ -14,3 +14,4 @@ pub mod Stages
 pub mod StepReport
 pub mod Steps
 pub mod Views
+pub mod Weight

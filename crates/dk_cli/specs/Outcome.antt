@@ -14,9 +14,9 @@ use Rattle.dk_cli.specs.StepReport.{IsReported}
 use Rattle.dk_cli.specs.declared.refusal.Refusal.{Refusal}
 use Rattle.dk_cli.specs.declared.refusal.Refusal.TheVariants.{Memory}
 
--- What the files give to the command. The limit on the weight is not tested yet.
+-- What the files give to the command.
 abbrev pub IsGiven : Command → (List ℕ → Option (List ℕ)) → Result (List ℕ) Refusal → Type 0
-IsGiven (convert names limit) files answer = Follows (IsDerivationAt names files) IsDeveloped answer
+IsGiven (convert names limit) files answer = Follows (IsDerivationAt names files) (IsDeveloped limit) answer
 IsGiven (steps names) files answer = Follows (IsDerivationAt names files) IsReported answer
 IsGiven (extract names) files answer = Follows (IsDerivationAt names files) IsExtracted answer
 IsGiven (check name) files answer = IsCheckedAt name files answer

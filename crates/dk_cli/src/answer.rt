@@ -1,5 +1,5 @@
 //! The answer to the words: a text, or the first refusal. Neither the sink nor the notes are touched.
-ghost use Rattle.std.specs.Prelude.{◌≡◌, ℕ, ◌<◌, [], None, true, IfOk, IfSome};
+ghost use Rattle.std.specs.Prelude.{◌≡◌, ◌<◌, [], None, true, IfOk, IfSome};
 ghost use Rattle.words.specs.Reading.{asks_command};
 ghost use Rattle.words.specs.Views.{texts};
 ghost use Rattle.dk_cli.specs.Answer.{Answers, AnswersCommand, IsFixed, IsMemory};
@@ -54,23 +54,22 @@ fn derivation_of<I: Inputs>(
     derivation_in(alloc, problem, trace)
 }
 
-/// The weight is not tested yet: the answer is the same with each limit.
 fn convert<R: Threads + Sync, I: Inputs, G: Gate>(
     rt: &R,
     alloc: Global,
     inputs: &mut I,
     names: Names<'_>,
+    limit: u64,
     workers: u32,
     gate: &G,
 ) -> Result<Vec<u8>, Refusal>
     requires { 0 < workers }
     ensures same { I.told inputs.new ≡ I.told inputs.old }
-    ensures answers { (limit : ℕ) → AnswersCommand (I.told inputs.old)
-        (convert (names_view names.entry) limit)
+    ensures answers { AnswersCommand (I.told inputs.old) (convert (names_view names.entry) limit)
         (I.faults inputs.old) (I.faults inputs.new) (answer_view result) }
 {
     let derivation = derivation_of(alloc, inputs, names)?;
-    developed(rt, alloc, &derivation, workers, gate)
+    developed(rt, alloc, &derivation, limit, workers, gate)
 }
 
 fn steps<R: Threads + Sync, I: Inputs, G: Gate>(
@@ -125,9 +124,11 @@ fn command_answer<R: Threads + Sync, I: Inputs, G: Gate>(
     ensures fixed { IsFixed (command_view command.entry) (output_view result) }
 {
     match command {
-        Command::Convert { names, workers, .. } => {
-            made(convert(rt, alloc, inputs, names, workers, gate))
-        }
+        Command::Convert {
+            names,
+            limit,
+            workers,
+        } => made(convert(rt, alloc, inputs, names, limit, workers, gate)),
         Command::Steps { names, workers } => made(steps(rt, alloc, inputs, names, workers, gate)),
         Command::Extract(names) => made(problems(alloc, inputs, names)),
         Command::Check(name) => made(check(alloc, inputs, name)),

@@ -8,6 +8,7 @@ ghost use Rattle.dk_cli.specs.Steps.{IsDerived, answer_view, falsities};
 use crate::derivation::Derivation;
 use crate::judging::judged;
 use crate::refusal::{File, Refusal};
+use crate::weighing::weighed;
 use derivation_graph::root_by_marks;
 use dk_io::Gate;
 use dk_syntax::{Formula, Named, NoMemory, Problem, Seq, SymKey};
@@ -130,19 +131,21 @@ fn flat_developed(alloc: Global, derivation: &Derivation, root: u32) -> Result<V
     written(alloc, problem, &instances)
 }
 
-/// The text that a trace proves of a problem, or the first refusal.
+/// The text that a trace proves of a problem, with that limit on the weight, or the first refusal.
 pub fn developed<R: Threads + Sync, G: Gate>(
     rt: &R,
     alloc: Global,
     derivation: &Derivation,
+    limit: u64,
     workers: u32,
     gate: &G,
 ) -> Result<Vec<u8>, Refusal>
     requires derived { IsDerived derivation.now }
     requires workers { 0 < workers }
-    ensures { Answered (IsDeveloped derivation.now) (answer_view result) }
+    ensures { Answered (IsDeveloped limit derivation.now) (answer_view result) }
 {
     let root = root_in(alloc, &derivation.problem, &derivation.trace)?;
-    judged(rt, alloc, derivation, workers, gate)?;
+    let verdicts = judged(rt, alloc, derivation, workers, gate)?;
+    weighed(alloc, derivation, &verdicts, root, limit)?;
     flat_developed(alloc, derivation, root)
 }

@@ -52,20 +52,21 @@ fn all_right(alloc: Global, verdicts: &Verdicts) -> Result<(), Refusal>
     Err(Refusal::Step { step, fault })
 }
 
-/// Whether every step is right, or the first that isn't.
+/// The verdicts where every step is right, or the first that isn't.
 pub fn judged<R: Threads + Sync, G: Gate>(
     rt: &R,
     alloc: Global,
     derivation: &Derivation,
     workers: u32,
     gate: &G,
-) -> Result<(), Refusal>
+) -> Result<Verdicts, Refusal>
     requires derived { IsDerived derivation.now }
     requires workers { 0 < workers }
     ensures { Answered (IsJudged derivation.now) result }
 {
     let verdicts = verdicts_on(rt, alloc, derivation, workers, gate)?;
-    all_right(alloc, &verdicts)
+    all_right(alloc, &verdicts)?;
+    Ok(verdicts)
 }
 
 /// The lines of the verdicts on the steps.

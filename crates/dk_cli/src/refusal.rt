@@ -114,6 +114,10 @@ pub enum Refusal {
     Step { step: u32, fault: StepFault },
     /// No step that may be the root has the formula `$false`.
     NoRefutation,
+    /// The instances that the root needs weigh more than the limit.
+    OverWeight(u64),
+    /// The first instance whose tree weight is above 1,000,000 is of that step.
+    OverWide { step: u32 },
     /// Interim: the problem or the trace is right so far, and not built yet.
     Unbuilt(File),
     /// Writing failed.
@@ -153,9 +157,11 @@ impl Refusal {
             Refusal::Words => Status::Words,
             Refusal::ReadFault(_) => Status::ReadFault,
             Refusal::NotTptp { .. } | Refusal::NotLp { .. } => Status::Text,
-            Refusal::TooLong(_) | Refusal::TooDeep { .. } | Refusal::TooManyItems(_) => {
-                Status::Limit
-            }
+            Refusal::TooLong(_)
+            | Refusal::TooDeep { .. }
+            | Refusal::TooManyItems(_)
+            | Refusal::OverWeight(_)
+            | Refusal::OverWide { .. } => Status::Limit,
             Refusal::Item { .. } | Refusal::NoRefutation => Status::Input,
             Refusal::Step { fault, .. } => fault.status(),
             Refusal::NotTyped(_) => Status::IllTyped,
@@ -192,7 +198,9 @@ impl Refusal {
             | Refusal::NotLp { .. }
             | Refusal::NotTyped(_)
             | Refusal::Item { .. }
-            | Refusal::Step { .. } => None,
+            | Refusal::Step { .. }
+            | Refusal::OverWeight(_)
+            | Refusal::OverWide { .. } => None,
         }
     }
 
@@ -213,6 +221,10 @@ impl Refusal {
             Refusal::Step { step, fault } => {
                 let why = step_fault_line(alloc, fault)?;
                 numbered_line(alloc, "step ", *step, why.as_str())
+            }
+            Refusal::OverWeight(limit) => counted_line(alloc, "weight over ", *limit),
+            Refusal::OverWide { step } => {
+                counted_line(alloc, "instance over 1000000: step ", u64::from(*step))
             }
             _ => Err(AllocError),
         }

@@ -91,8 +91,7 @@ fn run_answered<R: Threads + Sync, I: Inputs, K: Sink, N: Notes, G: Gate>(
 /// Does all that the program does: reads the files that the words name, writes the text of the command to
 /// `out` or one line to `notes`, and answers the status. The words are those of the command line
 /// without the program's name. The steps are judged in as many pieces as there are workers, before each
-/// of which the gate is passed once; what is done depends on neither. The limit on the weight is read,
-/// and not tested yet.
+/// of which the gate is passed once; what is done depends on neither.
 pub fn run<R: Threads + Sync, I: Inputs, K: Sink, N: Notes, G: Gate>(
     rt: &R,
     alloc: Global,

@@ -257,6 +257,31 @@ fn two_pieces_see_each_other(rt: HostRuntime) -> Result<(), Fail> {
     Ok(())
 }
 
+/// Seven instances, of weight 20: a chain of three pairs, by an image that is used at three terms.
+const CHAIN: Row = Row {
+    problem: "fof(a1,axiom,![Y]:?[X]:r(Y,X)).
+fof(g,conjecture,?[X,Y,Z]:((r(a,X)&r(X,Y))&r(Y,Z))).",
+    trace: "fof(a1,axiom,![Y]:?[X]:r(Y,X),file(x,a1)).
+fof(g,conjecture,?[X,Y,Z]:((r(a,X)&r(X,Y))&r(Y,Z)),file(x,g)).
+fof(s,plain,![Y]:r(Y,f(Y)),inference(r,[status(esa)],[a1])).
+fof(n,negated_conjecture,~?[X,Y,Z]:((r(a,X)&r(X,Y))&r(Y,Z)),inference(r,[status(cth)],[g])).
+cnf(c1,plain,~r(a,X)|~r(X,Y)|~r(Y,Z),inference(r,[status(thm)],[n])).
+cnf(c2,plain,~r(f(a),Y)|~r(Y,Z),inference(r,[status(thm)],[c1,s])).
+cnf(c3,plain,~r(f(f(a)),Z),inference(r,[status(thm)],[c2,s])).
+cnf(e,plain,$false,inference(r,[status(thm)],[c3,s])).",
+    lines: "weight over 19\n",
+};
+
+/// Whether the weight is refused by its line where it is over the limit, and not where it is the limit.
+pub fn is_weighed<R: Threads + Sync + AllocGlobal>(rt: &R) -> Result<bool, Fail> {
+    let trace = CHAIN.trace.as_bytes();
+    let words = ["convert", "p", "t", "--limit", "20"];
+    let within = run_on(rt, &words, CHAIN.problem, trace, SOUND)?;
+    let words = ["convert", "p", "t", "--limit", "19"];
+    let over = run_on(rt, &words, CHAIN.problem, trace, SOUND)?;
+    Ok(within.status == Status::Unbuilt && over.is_refusal(Status::Limit, CHAIN.lines))
+}
+
 #[test]
 fn derived_steps_are_problems(rt: HostRuntime) -> Result<(), Fail> {
     let problem = "cnf(a1,axiom,p).\ncnf(a2,axiom,~p).\n";

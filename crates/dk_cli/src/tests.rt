@@ -1,4 +1,5 @@
 use super::*;
+use crate::step_rows::is_weighed;
 use dk_io::{Gate, MemInputs, MemNotes, MemSink};
 use std::alloc::Global;
 use std::test::Fail;
@@ -55,7 +56,7 @@ pub struct Ran {
 }
 
 impl Ran {
-    fn is_refusal(&self, status: Status, line: &str) -> bool {
+    pub fn is_refusal(&self, status: Status, line: &str) -> bool {
         self.status == status && self.out.is_empty() && self.notes.as_slice() == line.as_bytes()
     }
 }
@@ -343,7 +344,7 @@ fn is_listed_last<R: Threads + Sync + AllocGlobal>(
 }
 
 #[test]
-fn limits_of_forms_are_told(rt: HostRuntime) -> Result<(), Fail> {
+fn limits_of_forms_and_weights_are_told(rt: HostRuntime) -> Result<(), Fail> {
     let within = tower(rt.alloc(), 12)?;
     assert!(rt; is_listed_last(&rt, within.as_str(), "4 e leaf\n")?);
     let clauses = tower(rt.alloc(), 13)?;
@@ -352,6 +353,7 @@ fn limits_of_forms_are_told(rt: HostRuntime) -> Result<(), Fail> {
     assert!(rt; is_listed_last(&rt, nodes.as_str(), "4 e over: normal form\n")?);
     let literals = joined(rt.alloc(), &["(", within.as_str(), ")|(q|(q|(q|q)))"])?;
     assert!(rt; is_listed_last(&rt, literals.as_str(), "4 e over: literals\n")?);
+    assert!(rt; is_weighed(&rt)?);
     Ok(())
 }
 

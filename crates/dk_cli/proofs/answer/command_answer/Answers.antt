@@ -8,4 +8,4 @@ use Rattle.dk_cli.proofs.answer.command_answer.Goals as goal
 pub returns-in-Convert-clause-answers : goal.returns-in-Convert-clause-answers
 returns-in-Convert-clause-answers g c =
     answers_as (g.I.Inputs.told c.args.inputs.now) (convert (names_view c.in-Convert.names) c.in-Convert.limit) (command_view c.args.command) _ _
-    (answer_view c.convert.result) (output_view c.made.result) (ap command_view c.in-Convert.is) c.made.ensures (c.convert.ensures.answers c.in-Convert.limit)
+    (answer_view c.convert.result) (output_view c.made.result) (ap command_view c.in-Convert.is) c.made.ensures c.convert.ensures.answers

@@ -271,3 +271,110 @@ fn a_map_is_carried_through_another_order(rt: HostRuntime) -> Result<(), Fail> {
     assert_eq!(rt; text.as_slice(), CARRIED_REPORT.as_bytes());
     Ok(())
 }
+
+const IMAGE_TRACE: &str = "fof(a1,axiom,![X]:((p(X)&?[Y]:r(X,Y))|q),file(x,a1)).
+fof(a2,axiom,~q,file(x,a2)).
+fof(a3,axiom,![X,Y]:~r(X,Y),file(x,a3)).
+fof(m,plain,![X]:(q|((?[Y]:r(X,Y))&p(X))),inference(f,[status(thm)],[a1])).
+fof(s,plain,![X]:((r(X,f(X))&p(X))|q),inference(k,[status(esa)],[m])).
+cnf(d,plain,q,inference(r,[status(thm)],[s,a3])).
+cnf(e,plain,$false,inference(r,[status(thm)],[d,a2])).
+";
+
+const IMAGE_REPORT: &str = "eigen 0 f($any): ?[X0]:r($any,X0)
+instance 0 step 5.1 clause 1: r($any,f($any)) | q
+thin 0 a1 + picks R terms $any skolems f($any)
+instance 1 step 5 clause 0: r($any,f($any)) | q
+instance 2 step 3 clause 0: ~r($any,f($any))
+thin 2 a3 + picks none terms $any, f($any) skolems none
+instance 3 step 6 clause 0: q
+instance 4 step 2 clause 0: ~q
+thin 4 a2 + picks none terms none skolems none
+instance 5 step 7 clause 0: $false
+weight 15
+";
+
+// A Skolem step that turns the parts of its parent's disjunction is no image of it, but follows from one.
+#[test]
+fn a_step_in_another_order_is_composed(rt: HostRuntime) -> Result<(), Fail> {
+    let text = report(&rt, rt.alloc(), CARRIED_PROBLEM, IMAGE_TRACE)?;
+    assert_eq!(rt; text.as_slice(), IMAGE_REPORT.as_bytes());
+    Ok(())
+}
+
+const DOUBLED_PROBLEM: &str = "cnf(base,axiom,p0(a)).
+fof(ax0,axiom,![X]:(~p0(X)|p1(g(X,X)))).
+fof(ax1,axiom,![X]:(~p1(X)|p2(g(X,X)))).
+fof(ax2,axiom,![X]:(~p2(X)|p3(g(X,X)))).
+fof(ax3,axiom,![X]:(~p3(X)|p4(g(X,X)))).
+fof(ax4,axiom,![X]:(~p4(X)|p5(g(X,X)))).
+fof(ax5,axiom,![X]:(~p5(X)|p6(g(X,X)))).
+fof(ax6,axiom,![X]:(~p6(X)|p7(g(X,X)))).
+fof(ax7,axiom,![X]:(~p7(X)|p8(g(X,X)))).
+fof(ax8,axiom,![X]:(~p8(X)|p9(g(X,X)))).
+fof(ax9,axiom,![X]:(~p9(X)|p10(g(X,X)))).
+fof(ax10,axiom,![X]:(~p10(X)|p11(g(X,X)))).
+fof(ax11,axiom,![X]:(~p11(X)|p12(g(X,X)))).
+fof(ax12,axiom,![X]:(~p12(X)|p13(g(X,X)))).
+fof(ax13,axiom,![X]:(~p13(X)|p14(g(X,X)))).
+fof(ax14,axiom,![X]:(~p14(X)|p15(g(X,X)))).
+fof(ax15,axiom,![X]:(~p15(X)|p16(g(X,X)))).
+fof(ax16,axiom,![X]:(~p16(X)|p17(g(X,X)))).
+fof(ax17,axiom,![X]:(~p17(X)|p18(g(X,X)))).
+fof(ax18,axiom,![X]:(~p18(X)|p19(g(X,X)))).
+fof(ax19,axiom,![X]:(~p19(X)|p20(g(X,X)))).
+fof(top,axiom,![X]:~p20(X)).
+";
+
+const DOUBLED_TRACE: &str = "cnf(base,axiom,p0(a),file(x,base)).
+fof(ax0,axiom,![X]:(~p0(X)|p1(g(X,X))),file(x,ax0)).
+fof(ax1,axiom,![X]:(~p1(X)|p2(g(X,X))),file(x,ax1)).
+fof(ax2,axiom,![X]:(~p2(X)|p3(g(X,X))),file(x,ax2)).
+fof(ax3,axiom,![X]:(~p3(X)|p4(g(X,X))),file(x,ax3)).
+fof(ax4,axiom,![X]:(~p4(X)|p5(g(X,X))),file(x,ax4)).
+fof(ax5,axiom,![X]:(~p5(X)|p6(g(X,X))),file(x,ax5)).
+fof(ax6,axiom,![X]:(~p6(X)|p7(g(X,X))),file(x,ax6)).
+fof(ax7,axiom,![X]:(~p7(X)|p8(g(X,X))),file(x,ax7)).
+fof(ax8,axiom,![X]:(~p8(X)|p9(g(X,X))),file(x,ax8)).
+fof(ax9,axiom,![X]:(~p9(X)|p10(g(X,X))),file(x,ax9)).
+fof(ax10,axiom,![X]:(~p10(X)|p11(g(X,X))),file(x,ax10)).
+fof(ax11,axiom,![X]:(~p11(X)|p12(g(X,X))),file(x,ax11)).
+fof(ax12,axiom,![X]:(~p12(X)|p13(g(X,X))),file(x,ax12)).
+fof(ax13,axiom,![X]:(~p13(X)|p14(g(X,X))),file(x,ax13)).
+fof(ax14,axiom,![X]:(~p14(X)|p15(g(X,X))),file(x,ax14)).
+fof(ax15,axiom,![X]:(~p15(X)|p16(g(X,X))),file(x,ax15)).
+fof(ax16,axiom,![X]:(~p16(X)|p17(g(X,X))),file(x,ax16)).
+fof(ax17,axiom,![X]:(~p17(X)|p18(g(X,X))),file(x,ax17)).
+fof(ax18,axiom,![X]:(~p18(X)|p19(g(X,X))),file(x,ax18)).
+fof(ax19,axiom,![X]:(~p19(X)|p20(g(X,X))),file(x,ax19)).
+fof(top,axiom,![X]:~p20(X),file(x,top)).
+cnf(c19,plain,~p19(X),inference(r,[status(thm)],[top,ax19])).
+cnf(c18,plain,~p18(X),inference(r,[status(thm)],[c19,ax18])).
+cnf(c17,plain,~p17(X),inference(r,[status(thm)],[c18,ax17])).
+cnf(c16,plain,~p16(X),inference(r,[status(thm)],[c17,ax16])).
+cnf(c15,plain,~p15(X),inference(r,[status(thm)],[c16,ax15])).
+cnf(c14,plain,~p14(X),inference(r,[status(thm)],[c15,ax14])).
+cnf(c13,plain,~p13(X),inference(r,[status(thm)],[c14,ax13])).
+cnf(c12,plain,~p12(X),inference(r,[status(thm)],[c13,ax12])).
+cnf(c11,plain,~p11(X),inference(r,[status(thm)],[c12,ax11])).
+cnf(c10,plain,~p10(X),inference(r,[status(thm)],[c11,ax10])).
+cnf(c9,plain,~p9(X),inference(r,[status(thm)],[c10,ax9])).
+cnf(c8,plain,~p8(X),inference(r,[status(thm)],[c9,ax8])).
+cnf(c7,plain,~p7(X),inference(r,[status(thm)],[c8,ax7])).
+cnf(c6,plain,~p6(X),inference(r,[status(thm)],[c7,ax6])).
+cnf(c5,plain,~p5(X),inference(r,[status(thm)],[c6,ax5])).
+cnf(c4,plain,~p4(X),inference(r,[status(thm)],[c5,ax4])).
+cnf(c3,plain,~p3(X),inference(r,[status(thm)],[c4,ax3])).
+cnf(c2,plain,~p2(X),inference(r,[status(thm)],[c3,ax2])).
+cnf(c1,plain,~p1(X),inference(r,[status(thm)],[c2,ax1])).
+cnf(c0,plain,~p0(X),inference(r,[status(thm)],[c1,ax0])).
+cnf(e,plain,$false,inference(r,[status(thm)],[base,c0])).
+";
+
+// Each step doubles the term: its tree is too large, though its distinct parts are few.
+#[test]
+fn the_first_instance_too_wide_is_named(rt: HostRuntime) -> Result<(), Fail> {
+    let plan = planned(&rt, rt.alloc(), DOUBLED_PROBLEM, DOUBLED_TRACE, 1_000_000)?;
+    assert!(rt; matches!(plan, Err(PlanFault::OverWide { step: 20 })));
+    Ok(())
+}

@@ -1,0 +1,2 @@
+//! The development of a problem and a plan.
+#![tactic(auto)]

@@ -27,7 +27,7 @@
 //! existentials that it replaces), `proofs/ProperLaws` (nothing is left out of an origin formula),
 //! `proofs/LongerMaps` (a map that grows changes none), `proofs/OrderLaws` (what is mentioned comes
 //! before), `proofs/PlaceLaws` (and has an earlier place), `proofs/FunctionTerms` (the symbols of
-//! needed terms are functions) and `proofs/TermOrders` (the order of terms is total, and ties no
+//! needed terms are functions), `proofs/WalkSteps` (the walk to an existential) and `proofs/TermOrders` (the order of terms is total, and ties no
 //! two terms of functions).
 #![tactic(auto)]
 
@@ -53,5 +53,7 @@ pub use laws::{
     trees_meet_origins,
 };
 pub use origin_formula::origin_of;
-pub use origins::{Origin, Origins, Signed};
+pub use origins::{Origin, Origins, Signed, origin_for};
 pub use planned::needed;
+pub use values::{Source, terms_around};
+pub use walk::{Around, Hit, Walk, find};

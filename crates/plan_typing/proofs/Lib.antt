@@ -1,1 +1,3 @@
 pub mod GroundLaws
+pub mod NeededTerms
+pub mod TermParts

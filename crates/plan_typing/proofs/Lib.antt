@@ -1,3 +1,4 @@
 pub mod GroundLaws
 pub mod NeededTerms
+pub mod Places
 pub mod TermParts

@@ -38,7 +38,7 @@ symbol_same a = ap₂ (λ x y. x && y) (ap₂ (λ x y. x && y) (name_same a.name
 -- ---- parts
 
 module _ (symbols : List SymKey) where
-  args_over : (args : List Term) → all_true (map well_formed_term args) ≡ true → Every (IsListed symbols) (joined (map term_occurrences args))
+  pub args_over : (args : List Term) → all_true (map well_formed_term args) ≡ true → Every (IsListed symbols) (joined (map term_occurrences args))
       → (arg : Term) → Contains args arg → IsTermOver symbols arg
   args_over [] formed listed arg (k, below, is) = absurd (omega (arith, below))
   args_over (a ∷ rest) formed listed arg (zero, below, is) =
@@ -50,7 +50,7 @@ module _ (symbols : List SymKey) where
       let parts = every_parts (term_occurrences a) (joined (map term_occurrences rest)) listed in
       args_over rest tests.1 parts.1 arg (k, omega (arith, below), is)
 
-  rest_listed : {one : SymKey} {l : List SymKey} → Every (IsListed symbols) (one ∷ l) → IsListed symbols one × Every (IsListed symbols) l
+  pub rest_listed : {one : SymKey} {l : List SymKey} → Every (IsListed symbols) (one ∷ l) → IsListed symbols one × Every (IsListed symbols) l
   rest_listed (every_cons h hs) = (h, hs)
 
   pub argument_over : (f : SymKey) (args : List Term) → IsTermOver symbols (App f args) → (arg : Term) → Contains args arg → IsTermOver symbols arg

@@ -1,0 +1,9 @@
+pub mod EigenvariableTurns
+pub mod GroundLaws
+pub mod LeavesOver
+pub mod NeededTerms
+pub mod Places
+pub mod RootsOver
+pub mod SpotBodies
+pub mod TermParts
+pub mod Turns

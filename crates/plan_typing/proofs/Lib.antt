@@ -1,0 +1,2 @@
+pub mod LeafItems
+pub mod LeafLists

@@ -1,2 +1,4 @@
+pub mod LeafGround
 pub mod LeafItems
 pub mod LeafLists
+pub mod LeafRows

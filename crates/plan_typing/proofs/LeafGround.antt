@@ -1,5 +1,5 @@
 -- The terms of a root's instances are ground.
-use Rattle.std.proofs.Common.{◌≡◌, ℕ, zero, suc, ◌&&◌, true, List, [], ◌∷◌, ◌++◌, get_or, map, refl, sym, ap₂, ◌∙◌, subst, inl, inr}
+use Rattle.std.proofs.Common.{◌≡◌, ℕ, zero, suc, ◌&&◌, true, List, [], ◌∷◌, map, refl, sym, ap₂, ◌∙◌, subst, inl, inr}
 use Rattle.dk_syntax.proofs.ListLaws.{ForEach}
 use Rattle.dk_syntax.proofs.SubstitutionLaws.{substituted-Any, substituted-App, substituted-Var}
 use Rattle.dk_syntax.proofs.TermLaws.{term_induction}
@@ -8,10 +8,9 @@ use Rattle.dk_syntax.specs.Lists.{Every, all_true, every_cons, every_nil}
 use Rattle.dk_syntax.specs.Terms.{substituted}
 use Rattle.dk_syntax.specs.WellFormed.{IsGround, term_closed_under}
 use Rattle.dk_syntax.specs.declared.term.Term.{Term}
-use Rattle.dk_syntax.specs.declared.term.Term.TheVariants.{Any, App, Var}
 use Rattle.expansion.proofs.Everywhere.{every_both}
-use Rattle.ground_instances.specs.Instances.{AreInstances, key_of, keys_of}
-use Rattle.ground_instances.specs.Keys.{Judged, Key, key}
+use Rattle.ground_instances.specs.Instances.{AreInstances, keys_of}
+use Rattle.ground_instances.specs.Keys.{Judged, Key}
 use Rattle.ground_instances.specs.Needs.{Needs, Visits, by_base, by_chain, by_clauses, by_image, by_leaf, by_parent, by_stage, by_thin, done, fresh, ground, named_by, of_image, of_parents, of_stage, seen, value_in}
 use Rattle.ground_instances.specs.declared.instance.Instance.{Instance}
 use Rattle.plan.proofs.Membership.{Among}

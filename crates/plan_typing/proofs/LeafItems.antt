@@ -1,5 +1,5 @@
 -- The items of a problem that leaves name.
-use Rattle.std.proofs.Common.{◌≡◌, ◌⊎◌, ℕ, Bool, true, false, not, ◌||◌, List, [], ◌∷◌, ◌++◌, map, find, length, slice_get, Option, Some, None, refl, sym, ap, ◌∙◌, subst}
+use Rattle.std.proofs.Common.{◌≡◌, ℕ, Bool, true, false, not, ◌||◌, List, [], ◌∷◌, ◌++◌, map, find, length, slice_get, Option, Some, None, refl, sym, ap, ◌∙◌, subst}
 use Rattle.std.specs.Prelude.{option_to_list}
 use Rattle.std.specs.List.{list_any}
 use Rattle.std.proofs.lemmas.Option.{same_Some}
@@ -8,7 +8,6 @@ use Rattle.dk_syntax.proofs.SymbolLaws.{names_same}
 use Rattle.dk_syntax.specs.Lists.{Entry}
 use Rattle.dk_syntax.specs.declared.Named.{Named}
 use Rattle.dk_syntax.specs.declared.Problem.{Problem}
-use Rattle.dk_syntax.specs.declared.formula.Formula.{Formula}
 use Rattle.ground_instances.specs.Keys.{IsLeafVerdict, sign_of}
 use Rattle.nd_term.specs.Views.{theory_formula}
 use Rattle.plan.proofs.LeafSymbols.{inference_not}

@@ -1,18 +1,17 @@
 -- The rows of which instances with thin trees are, and their leaves.
-use Rattle.std.proofs.Common.{◌≡◌, ◌⊎◌, ℕ, Bool, true, false, List, [], ◌∷◌, map, length, slice_get, Some, refl, sym, ap, ◌∙◌, subst, inl, inr}
+use Rattle.std.proofs.Common.{◌≡◌, ℕ, Bool, true, false, List, map, length, slice_get, Some, refl, sym, ap, ◌∙◌, subst}
 use Rattle.dk_syntax.specs.Lists.{Every}
 use Rattle.dk_syntax.specs.Terms.{instance}
 use Rattle.dk_syntax.specs.WellFormed.{IsClosed, IsGround}
 use Rattle.dk_syntax.specs.declared.clause.Clause.{Clause}
 use Rattle.dk_syntax.specs.declared.formula.Formula.{Formula}
-use Rattle.dk_syntax.specs.declared.term.Term.{Term}
 use Rattle.expansion.specs.Choices.{thin_tree}
 use Rattle.expansion.specs.Rows.{IsGrounded, ground_clause}
 use Rattle.expansion.specs.declared.thin.Thin.{Thin}
 use Rattle.ground_instances.proofs.ClauseLaws.{one_clause}
 use Rattle.ground_instances.proofs.StandsLaws.{images, stands_represents, verdict_at}
 use Rattle.ground_instances.specs.Instances.{IsInstance, key_of}
-use Rattle.ground_instances.specs.Keys.{Has, IsClauseOf, Key, imaged, key, listed}
+use Rattle.ground_instances.specs.Keys.{IsClauseOf, Key, imaged, key, listed}
 use Rattle.ground_instances.specs.Needs.{value_in}
 use Rattle.ground_instances.specs.declared.instance.Instance.{Instance}
 use Rattle.normal_form.proofs.NormalFacts.{closed_stays_closed}
@@ -21,7 +20,7 @@ use Rattle.normal_form.specs.Normal.{normal_of}
 use Rattle.normal_form.specs.declared.clause_list.ClauseRow.{ClauseRow}
 use Rattle.normal_form.specs.declared.form.Nf.{Nf}
 use Rattle.plan.specs.Laws.{AreRightSteps, judged_of}
-use Rattle.plan.specs.Maps.{HasLeaf, IsComposedMap, IsMapOf, to_form, to_image}
+use Rattle.plan.specs.Maps.{IsComposedMap, IsMapOf, to_form, to_image}
 use Rattle.plan.specs.Thins.{IsThin, of_form, of_image}
 use Rattle.plan_typing.proofs.LeafLists.{entry_got}
 use Rattle.step_check.proofs.OneRepresentative.{one_representative, parent_one}

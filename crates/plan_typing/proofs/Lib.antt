@@ -1,5 +1,12 @@
 pub mod EigenvariableTurns
 pub mod GroundLaws
+pub mod LeafGround
+pub mod LeafItems
+pub mod LeafLists
+pub mod LeafPlaces
+pub mod LeafPlain
+pub mod LeafRows
+pub mod LeafWorks
 pub mod LeavesOver
 pub mod NeededTerms
 pub mod Places

@@ -1,0 +1,4 @@
+pub mod GroundLiterals
+pub mod Picked
+pub mod VerdictFacts
+pub mod ChainLinks

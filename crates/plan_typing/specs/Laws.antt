@@ -1,5 +1,5 @@
 -- The body of goal for a plan has the type of the problem.
-use Rattle.std.specs.Prelude.{◌≡◌, ℕ, List, [], ◌++◌, map, option_to_list}
+use Rattle.std.specs.Prelude.{ℕ, List, [], ◌++◌, map, option_to_list}
 use Rattle.assemble.specs.Body.{goal_body, goal_type}
 use Rattle.assemble.specs.Fitting.{eigenvariables_of}
 use Rattle.assemble.specs.Justification.{Right}

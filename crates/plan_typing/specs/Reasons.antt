@@ -1,5 +1,5 @@
 -- The instances of a plan as those of the theory.
-use Rattle.std.specs.Prelude.{◌≡◌, ℕ, zero, suc, Bool, true, false, List, [], ◌∷◌, map, slice_get, get_or, length, unwrap_or, Option, Some, None}
+use Rattle.std.specs.Prelude.{ℕ, zero, suc, Bool, true, false, List, [], ◌∷◌, slice_get, get_or, length, unwrap_or, Option, Some, None}
 use Rattle.std.specs.List.{position}
 use Rattle.assemble.specs.Fitting.{symbols_of, tree_of}
 use Rattle.assemble.specs.Justification.{Instance as TheoryInstance, Reason, by_denied, by_leaf, by_resolve, by_same, by_subsume}
@@ -107,7 +107,7 @@ module _ (problem : Problem) (trace : Trace) (plan : Plan) where
   reason_by it (Some (Subsume parent clause picks terms)) = by_subsume (needed_at it 0) picks
   reason_by it (Some (Resolve pos_parent pos_clause neg_parent neg_clause pos_picks neg_picks pos_terms neg_terms)) =
       by_resolve (needed_at it 0) (needed_at it 1) pos_picks neg_picks
-      (pivot_atom (symbols_of plan.origins.list plan.order) plan.order (length it.lits) (literals_at (needed_at it 0)) pos_picks)
+      (pivot_atom (symbols_of plan.origins.list) plan.order (length it.lits) (literals_at (needed_at it 0)) pos_picks)
 
   -- by its thin tree where the instance has one, and else by its justification
   abbrev pub reason_of : Instance → Option Thin → Reason
@@ -117,7 +117,7 @@ module _ (problem : Problem) (trace : Trace) (plan : Plan) where
   -- the same instance in the theory
   abbrev pub theory_instance : Instance → Option Thin → TheoryInstance
   theory_instance it thin = record {
-    clause = output_clause (symbols_of plan.origins.list plan.order) plan.order it.lits;
+    clause = output_clause (symbols_of plan.origins.list) plan.order it.lits;
     by = reason_of it thin;
   }
 

@@ -2,3 +2,4 @@ pub mod GroundLiterals
 pub mod Picked
 pub mod VerdictFacts
 pub mod ChainLinks
+pub mod NeededClauses

@@ -3,3 +3,4 @@ pub mod Picked
 pub mod VerdictFacts
 pub mod ChainLinks
 pub mod NeededClauses
+pub mod Numbered

@@ -4,3 +4,5 @@ pub mod VerdictFacts
 pub mod ChainLinks
 pub mod NeededClauses
 pub mod Numbered
+pub mod TreesThere
+pub mod RootClause

@@ -1,8 +1,9 @@
-pub mod GroundLiterals
-pub mod Picked
-pub mod VerdictFacts
 pub mod ChainLinks
+pub mod GroundLaws
+pub mod GroundLiterals
 pub mod NeededClauses
 pub mod Numbered
-pub mod TreesThere
+pub mod Picked
 pub mod RootClause
+pub mod TreesThere
+pub mod VerdictFacts

@@ -1,5 +1,7 @@
+pub mod ChainLinks
 pub mod EigenvariableTurns
 pub mod GroundLaws
+pub mod GroundLiterals
 pub mod LeafGround
 pub mod LeafItems
 pub mod LeafLists
@@ -8,9 +10,15 @@ pub mod LeafPlain
 pub mod LeafRows
 pub mod LeafWorks
 pub mod LeavesOver
+pub mod NeededClauses
 pub mod NeededTerms
+pub mod Numbered
+pub mod Picked
 pub mod Places
+pub mod RootClause
 pub mod RootsOver
 pub mod SpotBodies
 pub mod TermParts
+pub mod TreesThere
 pub mod Turns
+pub mod VerdictFacts

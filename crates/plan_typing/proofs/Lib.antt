@@ -7,3 +7,4 @@ pub mod Picked
 pub mod RootClause
 pub mod TreesThere
 pub mod VerdictFacts
+pub mod PlanInstances

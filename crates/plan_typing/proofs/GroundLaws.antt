@@ -107,7 +107,7 @@ module _ (problem : Problem) (origins : List Origin) (order : List Term) where
 
   -- ---- terms
 
-  abbrev any_ground : GroundOver sig individuals 0 (ground_symbol any_name)
+  abbrev pub any_ground : GroundOver sig individuals 0 (ground_symbol any_name)
   any_ground = over_ground_symbol 0 (any_declared sig (signature_extends (map theory_symbol problem.symbols)))
 
   abbrev TermIsGround : Term → Type 0

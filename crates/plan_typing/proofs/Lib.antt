@@ -2,6 +2,13 @@ pub mod ChainLinks
 pub mod EigenvariableTurns
 pub mod GroundLaws
 pub mod GroundLiterals
+pub mod LeafGround
+pub mod LeafItems
+pub mod LeafLists
+pub mod LeafPlaces
+pub mod LeafPlain
+pub mod LeafRows
+pub mod LeafWorks
 pub mod LeavesOver
 pub mod NeededClauses
 pub mod NeededTerms

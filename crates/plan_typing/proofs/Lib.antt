@@ -23,3 +23,4 @@ pub mod TermParts
 pub mod TreesThere
 pub mod Turns
 pub mod VerdictFacts
+pub mod PlanLaws

@@ -25,9 +25,9 @@ use Rattle.nd_term.specs.Outputs.{output_clause, output_literal}
 use Rattle.nd_term.specs.Symbols.{GroundOver}
 use Rattle.plan.specs.Laws.{AreRightSteps, judged_of}
 use Rattle.plan.specs.declared.plan.Plan.{Plan}
-use Rattle.plan_symbols.specs.Laws.{InstancesAreOver, RootsAreWellFormed, ThinsAreOver}
+use Rattle.plan_symbols.specs.Laws.{InstancesAreOver, ThinsAreOver}
 use Rattle.plan_typing.proofs.EigenvariableTurns.{eigenvariables_turn, plan_functions, plan_instances_over, right_steps}
-use Rattle.plan_typing.proofs.GroundLaws.{literal_ground, term_ground}
+use Rattle.plan_typing.proofs.GroundLaws.{literal_ground}
 use Rattle.plan_typing.proofs.LeafWorks.{works_by_tree}
 use Rattle.plan_typing.proofs.Numbered.{ends_in_root, entry_in, ground_of}
 use Rattle.plan_typing.proofs.PlanInstances.{known_of, plan_builds}
@@ -73,7 +73,7 @@ every_mapped g f (every_cons {a = a} h hs) = every_cons (f a h) (every_mapped g 
 
 -- ---- the laws
 
-module _ (instances_over : InstancesAreOver) (thins_over : ThinsAreOver) (roots_formed : RootsAreWellFormed) where
+module _ (instances_over : InstancesAreOver) (thins_over : ThinsAreOver) where
   module _ (problem : Problem) (trace : Trace) (limit : ℕ) (plan : Plan) (proper : IsProperPlan problem trace limit plan) where
     abbrev case : Case
     case = case_of problem trace plan.graph
@@ -97,7 +97,7 @@ module _ (instances_over : InstancesAreOver) (thins_over : ThinsAreOver) (roots_
     builds =
         plan_builds problem trace plan sig (eigenvariables_of plan.origins.list plan.order) (theory_formulas problem.hyps) (theory_conclusion problem.conjecture) right are
         (λ front back it thin e is.
-        works_by_tree instances_over thins_over roots_formed (λ p origins order t over. term_ground p origins order t over) problem trace limit plan proper it thin
+        works_by_tree instances_over thins_over problem trace limit plan proper it thin
         (subst (λ l. Contains l it) (sym e) (middle_contained front it back)) is
         (known_of problem trace plan sig (eigenvariables_of plan.origins.list plan.order) (theory_formulas problem.hyps) (theory_conclusion problem.conjecture) front))
         proper.plan_is.thins

@@ -1,5 +1,6 @@
 -- The laws of a proper plan, from what the symbols of plans are.
-use Rattle.std.proofs.Common.{◌≡◌, ℕ, suc, List, [], ◌∷◌, ◌++◌, map, Option, None, arith, refl, sym, ap, ◌∙◌, subst}
+use Rattle.std.proofs.Common.{◌≡◌, ℕ, List, [], ◌∷◌, ◌++◌, map, Option, None, arith, refl, sym, ap, ◌∙◌, subst}
+use Rattle.std.proofs.lemmas.List.Elements.{Contains-append_right}
 use Rattle.std.specs.List.{Contains}
 use Rattle.assemble.proofs.BodyTypes.{body_typed}
 use Rattle.assemble.proofs.BuiltLaws.{Builds, works_of}
@@ -20,6 +21,7 @@ use Rattle.ground_instances.specs.declared.instance.Instance.{Instance}
 use Rattle.lp_term.proofs.ScopeLaws.{typed_below, typed_declared}
 use Rattle.lp_term.specs.Connectives.{propositions}
 use Rattle.lp_term.specs.Typing.{Declaration}
+use Rattle.nd_term.proofs.ListLaws.{every_along}
 use Rattle.nd_term.specs.Formulas.{Literal as TheoryLiteral}
 use Rattle.nd_term.specs.Outputs.{output_clause, output_literal}
 use Rattle.nd_term.specs.Symbols.{GroundOver}
@@ -38,10 +40,6 @@ use Rattle.step_check.specs.Steps.{Case, case_of}
 use Rattle.tstp_trace.specs.declared.step.Trace.{Trace}
 
 -- ---- lists of instances of the theory
-
-middle_contained : {A : Type 0} (front : List A) (a : A) (back : List A) → Contains (front ++ a ∷ back) a
-middle_contained [] a back = (0, omega arith, refl)
-middle_contained (b ∷ front) a back = let r = middle_contained front a back in (suc r.0, omega (arith, r.1), r.2)
 
 module _ (problem : Problem) (trace : Trace) (plan : Plan) where
   -- the last of the instances, and its clause
@@ -62,10 +60,6 @@ module _ (problem : Problem) (trace : Trace) (plan : Plan) where
   every_clause P [] thins every_nil = every_nil
   every_clause P (it ∷ instances) [] (every_cons h hs) = every_cons h (every_clause P instances [] hs)
   every_clause P (it ∷ instances) (thin ∷ thins) (every_cons h hs) = every_cons h (every_clause P instances thins hs)
-
-every_moved : {A : Type 0} {p q : A → Type 0} → ((a : A) → p a → q a) → {l : List A} → Every p l → Every q l
-every_moved f every_nil = every_nil
-every_moved f (every_cons {a = a} h hs) = every_cons (f a h) (every_moved f hs)
 
 every_mapped : {A B : Type 0} {p : A → Type 0} {q : B → Type 0} (g : A → B) → ((a : A) → p a → q (g a)) → {l : List A} → Every p l → Every q (map g l)
 every_mapped g f every_nil = every_nil
@@ -98,7 +92,7 @@ module _ (instances_over : InstancesAreOver) (thins_over : ThinsAreOver) where
         plan_builds problem trace plan sig (eigenvariables_of plan.origins.list plan.order) (theory_formulas problem.hyps) (theory_conclusion problem.conjecture) right are
         (λ front back it thin e is.
         works_by_tree instances_over thins_over problem trace limit plan proper it thin
-        (subst (λ l. Contains l it) (sym e) (middle_contained front it back)) is
+        (subst (λ l. Contains l it) (sym e) (Contains-append_right front (it ∷ back) it (0, omega arith, refl))) is
         (known_of problem trace plan sig (eigenvariables_of plan.origins.list plan.order) (theory_formulas problem.hyps) (theory_conclusion problem.conjecture) front))
         proper.plan_is.thins
 
@@ -121,7 +115,7 @@ module _ (instances_over : InstancesAreOver) (thins_over : ThinsAreOver) where
     symbols =
         let functions = plan_functions problem trace limit plan proper in
         every_clause problem trace plan (λ d. Every (λ (l : TheoryLiteral). GroundOver sig propositions 0 l.atom) d) instances plan.thins
-        (every_moved (λ it over. every_mapped (output_literal (symbols_of plan.origins.list) plan.order) (λ l o. literal_ground problem plan.origins.list plan.order functions l o) over.lits)
+        (every_along (λ it over. every_mapped (output_literal (symbols_of plan.origins.list) plan.order) (λ l o. literal_ground problem plan.origins.list plan.order functions l o) over.lits)
         (plan_instances_over problem trace limit plan proper instances_over thins_over))
 
   pub instances_right : InstancesAreRight

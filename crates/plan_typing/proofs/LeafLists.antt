@@ -24,10 +24,6 @@ got_put f [] k x h = absurd cc
 got_put f (y ∷ l) zero x h = ap Some (ap f (same_Some y x h))
 got_put f (y ∷ l) (suc k) x h = got_put f l k x h
 
-entry_within : {A : Type 0} {l : List A} {k : ℕ} {x : A} → Entry l k x → k < length l
-entry_within (entry_here a l) = omega arith
-entry_within (entry_later b e) = let h = entry_within e in omega (arith, h)
-
 pub every_among : {A : Type 0} {p : A → Type 0} {x : A} (l : List A) → Every p l → Among l x → p x
 every_among [] every_nil h = absurd h
 every_among {p = p} (y ∷ l) (every_cons w ws) (inl e) = subst p e w
@@ -51,27 +47,6 @@ place_later : {A : Type 0} (test : A → Bool) (y : A) (l : List A) → test y �
 place_later test y l e =
     let s : 1 + position_or_len test l ≡ suc (position_or_len test l) = omega arith in
     ap (λ b. cond (not b) (1 + position_or_len test l) 0) e ∙ s
-
-entry_first : {A : Type 0} (test : A → Bool) (l : List A) (x : A) → Among l x → test x ≡ true → ((y : A) → Among l y → test y ≡ true → y ≡ x)
-    → Entry l (position_or_len test l) x
-entry_first test [] x h t only = absurd h
-entry_first test (y ∷ l) x h t only = by_test (test y) refl (λ e. entry_first test l x (later e h) t (λ z k. only z (inr k)))
-  where
-    later : test y ≡ false → Among (y ∷ l) x → Among l x
-    later e (inl s) = let w : true ≡ false = sym t ∙ ap test (sym s) ∙ e in absurd cc
-    later e (inr k) = k
-
-    by_test : (b : Bool) → test y ≡ b → (test y ≡ false → Entry l (position_or_len test l) x) → Entry (y ∷ l) (position_or_len test (y ∷ l)) x
-    by_test true e more =
-        subst (λ n. Entry (y ∷ l) n x) (sym (place_here test y l e)) (subst (λ z. Entry (y ∷ l) zero z) (only y (inl refl) e) (entry_here y l))
-    by_test false e more = subst (λ n. Entry (y ∷ l) n x) (sym (place_later test y l e)) (entry_later y (more e))
-
--- where the item alone passes the test, its place is the first that passes
-pub entry_placed : {A : Type 0} (test : A → Bool) (l : List A) (none : ℕ) (x : A) → Among l x → test x ≡ true → ((y : A) → Among l y → test y ≡ true → y ≡ x)
-    → Entry l (unwrap_or (position test l) none) x
-entry_placed test l none x h t only =
-    let e = entry_first test l x h t only in
-    subst (λ n. Entry l n x) (sym (place_read test l none (entry_within e))) e
 
 -- ---- items that are found
 

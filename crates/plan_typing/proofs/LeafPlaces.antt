@@ -1,32 +1,25 @@
 -- The Skolem terms of an instance's thin tree have their places in the order.
-use Rattle.std.proofs.Common.{◌≡◌, ℕ, Bool, true, List, [], ◌∷◌, length, filter_map, Contains, Option, Some, None, refl, sym, ap, subst, inl, inr}
+use Rattle.std.proofs.Common.{ℕ, Bool, List, [], ◌∷◌, filter_map, Contains, Option, Some, None, sym, ap, subst, inl, inr}
 use Rattle.std.specs.Prelude.{IsTrue, is_some}
 use Rattle.std.specs.List.{flat_map}
-use Rattle.std.specs.declared.cmp.Ordering.{Ordering}
-use Rattle.std.specs.declared.cmp.Ordering.TheVariants.{Equal, Greater, Less}
-use Rattle.std.proofs.lemmas.Cmp.{tied_itself}
 use Rattle.dk_syntax.specs.Lists.{Entry, Every, every_cons, every_nil}
-use Rattle.dk_syntax.specs.Order.{order_of}
 use Rattle.dk_syntax.specs.declared.clause.Literal.{Literal}
 use Rattle.dk_syntax.specs.declared.term.Term.{Term}
 use Rattle.expansion.proofs.Everywhere.{every_both}
 use Rattle.expansion.specs.declared.thin.Thin.{Thin}
 use Rattle.ground_instances.specs.Lists.{instances_of}
 use Rattle.ground_instances.specs.declared.instance.Instance.{Instance}
-use Rattle.nd_term.specs.Outputs.{is_equal, place_of}
-use Rattle.plan.proofs.Membership.{Among, among, among_left, among_right, contained}
+use Rattle.nd_term.specs.Outputs.{place_of}
+use Rattle.plan.proofs.Membership.{Among, among_left, among_right, contained}
 use Rattle.plan.proofs.OneAnswer.{thin_is_one}
 use Rattle.plan.specs.Laws.{AreRightSteps, judged_of}
-use Rattle.plan.specs.OnePlan.{HasWellFormedRoots, roots_of}
+use Rattle.plan.specs.OnePlan.{roots_of}
 use Rattle.plan.specs.Thins.{AreThins, IsThin}
 use Rattle.plan.specs.declared.plan.Plan.{Plan}
-use Rattle.plan_typing.proofs.LeafLists.{among_every, entry_placed, every_among}
-use Rattle.skolem_order.proofs.FunctionTerms.{needed_functions}
-use Rattle.skolem_order.proofs.TermOrders.{HasFunctions, order_total, tied_is_one}
+use Rattle.plan_typing.proofs.LeafLists.{among_every, every_among}
 use Rattle.skolem_order.specs.Meetings.{Meets, at_all, at_both, at_ex, at_false, at_left, at_lit, at_right, at_vacuous}
-use Rattle.skolem_order.specs.Order.{AreNeeded, Needed, in_root, itself, thin_terms}
+use Rattle.skolem_order.specs.Order.{Needed, in_root, itself, thin_terms}
 use Rattle.skolem_order.specs.Origins.{is_skolem}
-use Rattle.skolem_order.specs.Rooted.{HaveFunctions}
 use Rattle.skolem_order.specs.SignedForms.{SignedForm}
 use Rattle.skolem_order.specs.declared.origins.Origin.{Origin}
 use Rattle.step_check.specs.Steps.{Case}
@@ -73,26 +66,11 @@ root_of plan thin t there h =
     let here = among_flat thin_terms trees thin t there (among_right thin.terms thin.skolems t h) in
     contained (roots_of plan) t (among_left (flat_map thin_terms trees) _ t here)
 
--- ---- places
-
-equal_only : (o : Ordering) → is_equal o ≡ true → o ≡ Equal
-equal_only Less h = absurd cc
-equal_only Equal h = refl
-equal_only Greater h = absurd cc
-
--- a needed term has its place, where the symbols of needed terms are functions
-needed_placed : (origins : List Origin) (roots order : List Term) → AreNeeded origins roots order → ((t : Term) → Needed origins roots t → HasFunctions t)
-    → (t : Term) → Needed origins roots t → Entry order (place_of order t) t
-needed_placed origins roots order are functions t n =
-    entry_placed (λ u. is_equal (order_of u t)) order (length order) t (among order t (are.all t n)) (ap is_equal (tied_itself order_total t))
-    (λ u there e. tied_is_one u t (functions u (are.needed u (contained order u there))) (functions t n) (equal_only (order_of u t) e))
-
 pub skolems_placed : (case : Case) (list : List Verdict) → AreRightSteps case list → (plan : Plan) → AreThins (judged_of case list) (instances_of plan.instances) plan.thins
-    → AreNeeded plan.origins.list (roots_of plan) plan.order → HaveFunctions plan.origins.list → HasWellFormedRoots plan
+    → ((t : Term) → Needed plan.origins.list (roots_of plan) t → Entry plan.order (place_of plan.order t) t)
     → (it : Instance) (thin : Thin) → Among (instances_of plan.instances) it → IsThin (judged_of case list) it thin
     → Every (IsSkolemTerm plan.origins.list) thin.skolems → Every (λ t. Entry plan.order (place_of plan.order t) t) thin.skolems
-skolems_placed case list s plan thins needed functions formed it thin there is skolem =
+skolems_placed case list s plan thins placed it thin there is skolem =
     let tree = thin_listed case list s (instances_of plan.instances) plan.thins thins it thin there is in
     among_every (λ t. Entry plan.order (place_of plan.order t) t) thin.skolems
-    (λ t h. needed_placed plan.origins.list (roots_of plan) plan.order needed (λ u n. needed_functions plan.origins.list functions (roots_of plan) formed n) t
-    (in_root t t (root_of plan thin t tree h) itself (every_among thin.skolems skolem h)))
+    (λ t h. placed t (in_root t t (root_of plan thin t tree h) itself (every_among thin.skolems skolem h)))

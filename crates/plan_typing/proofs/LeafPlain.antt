@@ -1,32 +1,26 @@
 -- The formulas of leaves are the problem's, and no Skolem symbol stands in them.
-use Rattle.std.proofs.Common.{◌≡◌, ◌<◌, ◌≤◌, ℕ, Bool, true, false, if◌then◌else◌, List, [], ◌∷◌, ◌++◌, length, get_or, Contains, refl, sym, ap, ◌∙◌, subst, inl, inr, arith}
+use Rattle.std.proofs.Common.{◌≡◌, ◌<◌, ◌≤◌, Bool, true, false, if◌then◌else◌, List, [], ◌∷◌, ◌++◌, refl, sym, ◌∙◌, subst, inl, inr, arith}
 use Rattle.std.specs.List.{list_any}
 use Rattle.assemble.specs.Fitting.{IsPlain, symbols_of}
 use Rattle.dk_syntax.specs.Lists.{Every}
 use Rattle.dk_syntax.specs.Problems.{formulas_of, HasItsSymbols}
 use Rattle.dk_syntax.specs.Symbols.{first_symbols, formula_occurrences, same_symbol, with_symbol, with_symbols}
 use Rattle.dk_syntax.specs.declared.formula.Formula.{Formula}
-use Rattle.dk_syntax.specs.declared.symbol.Kind.TheVariants.{Function}
 use Rattle.dk_syntax.specs.declared.symbol.SymKey.{SymKey}
 use Rattle.dk_syntax.specs.declared.term.Term.{Term}
 use Rattle.plan.proofs.Counts.{among_stands, count, counted, stands_among}
-use Rattle.plan.proofs.FitOrigins.{origins_are_fit}
 use Rattle.plan.proofs.FreshLists.{part_counted}
-use Rattle.plan.proofs.LeafSymbols.{leaf_in_problem, symbol_known}
-use Rattle.plan.proofs.Membership.{Among, among, among_left, among_right}
+use Rattle.plan.proofs.LeafSymbols.{symbol_known}
+use Rattle.plan.proofs.Membership.{Among, among_left, among_right}
 use Rattle.plan.proofs.OriginLaws.{from_origin}
-use Rattle.plan.proofs.StepMaps.{unknown_in_all, verdict_of}
-use Rattle.plan.specs.Laws.{AreRightSteps, AreWellFormed, judged_of}
-use Rattle.plan.specs.Maps.{HasLeaf, IsMapOf, to_form, to_image}
-use Rattle.plan.specs.Origins.{AreOrigins, IsFitEntry}
+use Rattle.plan.proofs.StepMaps.{unknown_in_all}
+use Rattle.plan.specs.Laws.{AreRightSteps, judged_of}
+use Rattle.plan.specs.Origins.{AreOrigins}
 use Rattle.plan_typing.proofs.LeafLists.{among_every}
-use Rattle.skolem_order.specs.Rooted.{HaveFunctions}
 use Rattle.skolem_order.specs.declared.origins.Origin.{Origin}
 use Rattle.step_check.specs.Freshness.{introduced, introduced_by}
 use Rattle.step_check.specs.Steps.{Case, stands_in}
 use Rattle.step_check.specs.declared.verdict.Verdict.{Verdict}
-use Rattle.step_skolem.specs.Images.{entry}
-use Rattle.step_skolem.specs.declared.map.SkEntry.{SkEntry}
 
 -- ---- symbols that are added once
 
@@ -60,16 +54,6 @@ origin_of_symbol (o ∷ origins) x (inl e) = (o, inl refl, e)
 origin_of_symbol (o ∷ origins) x (inr h) = let r = origin_of_symbol origins x h in (r.0, inr r.1, r.2)
 
 module _ (case : Case) (list : List Verdict) (s : AreRightSteps case list) where
-  leaf_known : {i : ℕ} {f : Formula} {sign : Bool} → HasLeaf (judged_of case list) i f sign → Among (formulas_of case.problem) f
-  leaf_known leaf =
-      subst (λ f. Among (formulas_of case.problem) f) leaf.formula
-      (leaf_in_problem case (verdict_of case list s.are s.right s.acyclic leaf.base leaf.verdict leaf.here) leaf.leaf leaf.step leaf.stands)
-
-  -- the formula of the leaf under a step is one of the problem's
-  pub map_known : {i : ℕ} {f : Formula} {sign : Bool} {entries : List SkEntry} → IsMapOf (judged_of case list) i f sign entries → Among (formulas_of case.problem) f
-  map_known (to_form a) = leaf_known a.leaf
-  map_known (to_image a) = leaf_known a.leaf
-
   module _ (origins : List Origin) (os : AreOrigins (judged_of case list) origins) where
     -- a symbol of the problem is none of the origins'
     unknown : (x : SymKey) → stands_in case.problem.symbols x ≡ true → stands_in (symbols_of origins) x ≡ false
@@ -91,17 +75,3 @@ module _ (case : Case) (list : List Verdict) (s : AreRightSteps case list) where
     plain_formula own order f there =
         among_every (IsPlain origins order) (formula_occurrences f)
         (λ x h. unknown x (symbol_known case.problem own f there x (among_stands (first_symbols f) x (all_put (formula_occurrences f) [] x h))))
-
-    -- ---- the symbols of origins are functions
-
-    fit_at : (entries : List SkEntry) (e : SkEntry) → Contains entries e → ((k : ℕ) → k < length entries → IsFitEntry (get_or entries k e)) → IsFitEntry e
-    fit_at entries e (k, below, is) fit = subst IsFitEntry is (fit k below)
-
-    pub origins_have_functions : AreWellFormed case.steps → HaveFunctions origins
-    origins_have_functions formed o (k, below, is) =
-        let fit = origins_are_fit case list s formed origins os in
-        let here = subst (λ (x : Origin). (j : ℕ) → (d : SkEntry) → j < length x.map.entries → IsFitEntry (get_or x.map.entries j d)) is (fit k o below) in
-        let r = from_origin (judged_of case list) 0 list origins os o (among origins o (k, below, is)) in
-        let own = entry o.ex r.symbol r.origin.args in
-        let kind : r.symbol.kind ≡ Function = (fit_at o.map.entries own r.origin.own (λ j less. here j own less)).kind in
-        ap (λ (x : SymKey). x.kind) r.origin.named ∙ kind

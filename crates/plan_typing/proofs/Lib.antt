@@ -15,6 +15,7 @@ pub mod NeededTerms
 pub mod Numbered
 pub mod Picked
 pub mod Places
+pub mod PlanInstances
 pub mod RootClause
 pub mod RootsOver
 pub mod SpotBodies
@@ -22,3 +23,4 @@ pub mod TermParts
 pub mod TreesThere
 pub mod Turns
 pub mod VerdictFacts
+pub mod PlanLaws

@@ -91,6 +91,10 @@ entry_unmapped f [] k y i = elim i [ ]
 entry_unmapped f (x ∷ xs) zero y (entry_here _ _) = (x, entry_here x xs, refl)
 entry_unmapped f (x ∷ xs) (suc k) y (entry_later _ i) = let r = entry_unmapped f xs k y i in (r.0, entry_later x r.1, r.2)
 
+pub entry_in : {A : Type 0} (front : List A) (a : A) (back : List A) → (k : ℕ) × Entry (front ++ a ∷ back) k a
+entry_in [] a back = (zero, entry_here a back)
+entry_in (b ∷ front) a back = let r = entry_in front a back in (suc r.0, entry_later b r.1)
+
 -- what stands in the front has its number there
 number_before : (front back : List Key) (one : Key) (n : ℕ) → AreOnce (front ++ back) → Contains front one → slice_get (front ++ back) n ≡ Some one → Entry front n one
 number_before front back one n once there at =
@@ -138,10 +142,6 @@ module _ (judged : Judged) (root : ℕ) (instances : List Instance) (are : AreIn
         each_cons (entry_mapped (λ (x : Instance). x.lits) w.1) rest.1,
         each_cons (subst (λ k. IsGroundClause judged k w.0.lits) w.2 (grounds n w.0 w.1)) rest.2,
       )
-
-  entry_in : {A : Type 0} (front : List A) (a : A) (back : List A) → (k : ℕ) × Entry (front ++ a ∷ back) k a
-  entry_in [] a back = (zero, entry_here a back)
-  entry_in (b ∷ front) a back = let r = entry_in front a back in (suc r.0, entry_later b r.1)
 
   entry_left : {A : Type 0} {front : List A} {k : ℕ} {a : A} (back : List A) → Entry front k a → Entry (front ++ back) k a
   entry_left back (entry_here a l) = entry_here a (l ++ back)

@@ -18,6 +18,7 @@ use Rattle.step_clause.specs.declared.justification.Justification.{Justification
 use Rattle.step_clause.specs.declared.justification.Justification.TheVariants.{Resolve, Subsume}
 use Rattle.ground_instances.specs.Keys.{Key}
 use Rattle.ground_instances.specs.Needs.{ground, named_by, value_in}
+use Rattle.plan_typing.proofs.LeafLists.{entry_got}
 use Rattle.plan_typing.proofs.GroundLiterals.{IsMoved, parent_moved, parent_moved_over, resolvent_literals}
 
 -- ---- what a justification says of ground clauses
@@ -39,11 +40,6 @@ pub data Explained (lits : List Literal) : Justification → List (List Literal)
       → Explained lits (Resolve parent number other other_number picks others ts us) (m ∷ n ∷ [])
 
 -- ---- entries
-
-pub entry_got : {A : Type 0} (l : List A) (place : ℕ) (a : A) → slice_get l place ≡ Some a → Entry l place a
-entry_got [] place a e = absurd (cc)
-entry_got (b ∷ l) zero a e = let same : b ≡ a = cc in subst (λ c. Entry (b ∷ l) zero c) same (entry_here b l)
-entry_got (b ∷ l) (suc place) a e = entry_later b (entry_got l place a e)
 
 pub entry_mapped : {A B : Type 0} (f : A → B) {l : List A} {place : ℕ} {a : A} → Entry l place a → Entry (map f l) place (f a)
 entry_mapped f (entry_here a l) = entry_here (f a) (map f l)

@@ -1,1 +1,2 @@
+pub mod FormsOver
 pub mod TermsOver

@@ -78,35 +78,35 @@ module _ (symbols : List SymKey) where
   pub record IsAppOver (f : SymKey) (args : List Term) : Type 0 where
     pub fits : fits_symbol Function f (length args) ≡ true
     pub listed : IsListed symbols f
-    pub args : Every (IsTermOver symbols) args
+    pub each : Every (IsTermOver symbols) args
 
   pub app_apart : (f : SymKey) (args : List Term) → IsTermOver symbols (App f args) → IsAppOver f args
   app_apart f args h =
       let parts = both_true (fits_symbol Function f (length args)) (all_true (map well_formed_term args)) (sym (well_formed-App f args) ∙ h.formed) in
       let all = subst (Every (IsListed symbols)) (occurrences-App f args) h.listed in
-      record { fits = parts.0; listed = every_first all; args = args_apart args parts.1 (every_rest all) }
+      record { fits = parts.0; listed = every_first all; each = args_apart args parts.1 (every_rest all) }
 
   pub app_over : (f : SymKey) (args : List Term) → IsAppOver f args → IsTermOver symbols (App f args)
   app_over f args h = record {
-    formed = well_formed-App f args ∙ both (fits_symbol Function f (length args)) (all_true (map well_formed_term args)) h.fits (args_formed h.args);
-    listed = subst (Every (IsListed symbols)) (sym (occurrences-App f args)) (every_cons h.listed (args_listed h.args));
+    formed = well_formed-App f args ∙ both (fits_symbol Function f (length args)) (all_true (map well_formed_term args)) h.fits (args_formed h.each);
+    listed = subst (Every (IsListed symbols)) (sym (occurrences-App f args)) (every_cons h.listed (args_listed h.each));
   }
 
   -- a literal, by its predicate and its arguments
   pub record IsAtomOver (pred : SymKey) (args : List Term) : Type 0 where
     pub fits : fits_symbol Predicate pred (length args) ≡ true
     pub listed : IsListed symbols pred
-    pub args : Every (IsTermOver symbols) args
+    pub each : Every (IsTermOver symbols) args
 
   pub literal_apart : (l : Literal) → IsLiteralOver symbols l → IsAtomOver l.pred l.args
   literal_apart l h =
       let parts = both_true (fits_symbol Predicate l.pred (length l.args)) (all_true (map well_formed_term l.args)) h.formed in
-      record { fits = parts.0; listed = every_first h.listed; args = args_apart l.args parts.1 (every_rest h.listed) }
+      record { fits = parts.0; listed = every_first h.listed; each = args_apart l.args parts.1 (every_rest h.listed) }
 
   pub literal_over : (l : Literal) → IsAtomOver l.pred l.args → IsLiteralOver symbols l
   literal_over l h = record {
-    formed = both (fits_symbol Predicate l.pred (length l.args)) (all_true (map well_formed_term l.args)) h.fits (args_formed h.args);
-    listed = every_cons h.listed (args_listed h.args);
+    formed = both (fits_symbol Predicate l.pred (length l.args)) (all_true (map well_formed_term l.args)) h.fits (args_formed h.each);
+    listed = every_cons h.listed (args_listed h.each);
   }
 
   -- ---- what keeps applications
@@ -127,7 +127,7 @@ module _ (symbols : List SymKey) where
         subst Over (sym (at_app f args)) (app_over f (map change args) (record {
           fits = subst (λ n. fits_symbol Function f n ≡ true) (sym (length-map args change)) parts.fits;
           listed = parts.listed;
-          args = args_kept args known parts.args;
+          each = args_kept args known parts.each;
         })))
         (λ h. subst Over (sym at_any) any_over)
 
@@ -138,7 +138,7 @@ module _ (symbols : List SymKey) where
     atom_kept pred args h = record {
       fits = subst (λ n. fits_symbol Predicate pred n ≡ true) (sym (length-map args change)) h.fits;
       listed = h.listed;
-      args = terms_kept args h.args;
+      each = terms_kept args h.each;
     }
 
   -- ---- substitutions

@@ -1,0 +1,3 @@
+pub mod FormsOver
+pub mod RowsOver
+pub mod TermsOver

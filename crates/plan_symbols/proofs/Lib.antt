@@ -1,3 +1,4 @@
 pub mod FormsOver
 pub mod RowsOver
 pub mod TermsOver
+pub mod VerdictsOver

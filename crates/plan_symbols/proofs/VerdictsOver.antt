@@ -45,7 +45,7 @@ use Rattle.tstp_trace.specs.declared.step.Step.{Step}
 
 -- ---- lists
 
-every_of : {X : Type 0} (P : X → Type 0) (xs : List X) → ((x : X) → Among xs x → P x) → Every P xs
+pub every_of : {X : Type 0} (P : X → Type 0) (xs : List X) → ((x : X) → Among xs x → P x) → Every P xs
 every_of P [] h = every_nil
 every_of P (x ∷ xs) h = every_cons (h x (inl refl)) (every_of P xs (λ y m. h y (inr m)))
 

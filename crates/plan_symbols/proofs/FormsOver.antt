@@ -119,9 +119,10 @@ module _ (symbols : List SymKey) where
       → IsFormulaOver symbols f → IsFormulaOver symbols a × IsFormulaOver symbols b
   two_parts f a b h k q =
       let w = both_true (well_formed a) (well_formed b) (sym h ∙ q.formed) in
-      let l = subst (Every (IsListed symbols)) k q.listed in
-      (record { formed = w.0; listed = every_left (formula_occurrences a) (formula_occurrences b) l },
-      record { formed = w.1; listed = every_right (formula_occurrences a) (formula_occurrences b) l })
+      let l = subst (Every (IsListed symbols)) k q.listed in (
+        record { formed = w.0; listed = every_left (formula_occurrences a) (formula_occurrences b) l },
+        record { formed = w.1; listed = every_right (formula_occurrences a) (formula_occurrences b) l },
+      )
 
   over_parts : Parts (IsFormulaOver symbols)
   over_parts = record {

@@ -1,3 +1,8 @@
 pub mod FormsOver
+pub mod InstancesOver
+pub mod PremisesOver
+pub mod RootsFormed
 pub mod RowsOver
 pub mod TermsOver
+pub mod ThinsOver
+pub mod VerdictsOver

@@ -1,4 +1,5 @@
 pub mod FormsOver
+pub mod InstanceLaws
 pub mod InstancesOver
 pub mod PremisesOver
 pub mod RootsFormed

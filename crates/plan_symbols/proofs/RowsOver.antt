@@ -86,3 +86,7 @@ pub every_slice : {A : Type 0} {p : A → Type 0} (l : List A) (k : ℕ) (a : A)
 every_slice [] k a h e = absurd cc
 every_slice {p = p} (b ∷ l) zero a (every_cons w ws) e = let s : b ≡ a = same_Some b a e in subst p s w
 every_slice (b ∷ l) (suc k) a (every_cons w ws) e = every_slice l k a ws e
+
+pub every_only : {A : Type 0} {p q : A → Type 0} {l : List A} → ((a : A) → p a → q a) → Every p l → Every q l
+every_only w every_nil = every_nil
+every_only w (every_cons {a = a} i h) = every_cons (w a i) (every_only w h)

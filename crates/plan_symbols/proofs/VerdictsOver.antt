@@ -23,10 +23,9 @@ use Rattle.step_chain.specs.Chains.{IsLeastChain}
 use Rattle.step_chain.specs.declared.chain.Chain.{Chain}
 use Rattle.step_check.proofs.OneRepresentative.{parent_one}
 use Rattle.step_check.proofs.OneVerdict.{one_verdict}
-use Rattle.step_check.specs.Freshness.{freshened, introduced, refused_by, stale}
-use Rattle.step_check.specs.Limits.{full_limit}
+use Rattle.step_check.specs.Freshness.{freshened, introduced}
 use Rattle.step_check.specs.Representatives as stand
-use Rattle.step_check.specs.Representatives.{HasOneParent, IsDerived, IsFullWithin, IsWithin, MayCompose, Represents}
+use Rattle.step_check.specs.Representatives.{HasOneParent, IsFullWithin, IsWithin, MayCompose, Represents}
 use Rattle.step_check.specs.Steps.{aliens_of, Case, form_of_step, is_conjecture_leaf, own_form, parents_of, step_in}
 use Rattle.step_check.specs.Verdicts as is
 use Rattle.step_check.specs.Verdicts.{AreChained, AreLists, HasVerdict, IsClausalVerdict, IsFlaggedVerdict, IsInferenceVerdict, IsListAt, IsOtherVerdict, IsPlainVerdict, IsWithinAll, map_of}
@@ -39,7 +38,6 @@ use Rattle.step_compose.specs.Composing.{AreJustified, Composes as IsComposing, 
 use Rattle.step_compose.specs.FullImages.{full_image, full_map}
 use Rattle.step_compose.specs.declared.composed.Composed.{Composed}
 use Rattle.step_skolem.specs.Carrying.{carried}
-use Rattle.step_skolem.specs.Images.{IsImage}
 use Rattle.step_skolem.specs.declared.map.SkEntry.{SkEntry}
 use Rattle.tstp_trace.specs.declared.step.Step.{Step}
 

@@ -1,0 +1,4 @@
+pub mod FormsOver
+pub mod RowsOver
+pub mod TermsOver
+pub mod VerdictsOver

@@ -1,4 +1,5 @@
 pub mod FormsOver
+pub mod Justified
 pub mod Repair
 pub mod RowsOver
 pub mod TermsOver

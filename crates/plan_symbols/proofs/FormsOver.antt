@@ -1,16 +1,15 @@
 -- Forms whose literals are over a list of symbols: normal forms, and images of such forms.
-use Rattle.std.proofs.Common.{◌≡◌, ℕ, zero, suc, ◌-◌, Bool, true, false, not, nat_eq, nat_lt, ◌&&◌, eq-eqb, if◌then◌else◌, List, [], ◌∷◌, ◌++◌, length, map, refl, sym, ap, ◌∙◌, subst, inl, inr}
+use Rattle.std.proofs.Common.{◌≡◌, ℕ, zero, suc, ◌-◌, Bool, true, nat_eq, nat_lt, ◌&&◌, eq-eqb, if◌then◌else◌, List, [], ◌∷◌, ◌++◌, length, map, refl, sym, ap, ◌∙◌, subst, inl, inr}
 use Rattle.std.proofs.lemmas.List.{length-map}
 use Rattle.dk_syntax.proofs.FormulaLaws.{occurrences-All, occurrences-And, occurrences-Atom, occurrences-Ex, occurrences-Iff, occurrences-Imp, occurrences-Not, occurrences-Or}
 use Rattle.dk_syntax.proofs.WellFormedLaws.{well_formed-All, well_formed-And, well_formed-Atom, well_formed-Ex, well_formed-Iff, well_formed-Imp, well_formed-Not, well_formed-Or}
-use Rattle.dk_syntax.specs.Lists.{all_true, Every, every_cons, every_nil}
-use Rattle.dk_syntax.specs.Symbols.{formula_occurrences, joined, same_kind, term_occurrences}
-use Rattle.dk_syntax.specs.Terms.{instance}
-use Rattle.dk_syntax.specs.WellFormed.{fits_symbol, IsWellFormed, well_formed, well_formed_term}
+use Rattle.dk_syntax.specs.Lists.{Every, every_cons, every_nil}
+use Rattle.dk_syntax.specs.Symbols.{formula_occurrences, same_kind}
+use Rattle.dk_syntax.specs.WellFormed.{fits_symbol, IsWellFormed, well_formed}
 use Rattle.dk_syntax.specs.declared.formula.Formula.{Formula}
 use Rattle.dk_syntax.specs.declared.formula.Formula.TheVariants as formula
 use Rattle.dk_syntax.specs.declared.clause.Literal.{Literal}
-use Rattle.dk_syntax.specs.declared.symbol.Kind.TheVariants.{Function, Predicate}
+use Rattle.dk_syntax.specs.declared.symbol.Kind.TheVariants.{Function}
 use Rattle.dk_syntax.specs.declared.symbol.SymKey.{SymKey}
 use Rattle.dk_syntax.specs.declared.term.Term.{Term}
 use Rattle.dk_syntax.specs.declared.term.Term.TheVariants.{Var}
@@ -26,9 +25,9 @@ use Rattle.normal_form.specs.Occurrence.{in_form}
 use Rattle.normal_form.specs.declared.form.Nf.{Nf}
 use Rattle.normal_form.specs.declared.form.Nf.TheVariants as nf
 use Rattle.plan.specs.Origins.{IsFitEntry}
-use Rattle.plan_symbols.proofs.TermsOver.{any_over, app_over, args_apart, atom_kept, both, both_true, every_append, every_first, every_left, every_rest, every_right, instance_over, literal_apart, literal_over, substituted_over, var_over}
+use Rattle.plan_symbols.proofs.TermsOver.{app_over, atom_kept, both, both_true, every_first, every_left, every_rest, every_right, instance_over, literal_apart, literal_over, substituted_over, var_over}
 use Rattle.plan_symbols.specs.Over.{IsListed, IsLiteralOver, IsTermOver}
-use Rattle.step_skolem.specs.Images.{binder, entry, FitsEntry, i_all, i_and, i_keep, i_lit, i_no, i_or, i_put, i_yes, Image, IsImage, Kept, universal}
+use Rattle.step_skolem.specs.Images.{binder, entry, i_all, i_and, i_keep, i_lit, i_no, i_or, i_put, i_yes, Image, IsImage, Kept, universal}
 use Rattle.step_skolem.specs.Substitutions.{applied, up, with_term}
 use Rattle.step_skolem.specs.declared.map.SkEntry.{SkEntry}
 
@@ -168,7 +167,8 @@ module _ (symbols : List SymKey) where
   same_length : (g : List Kept) (ys args : List ℕ) → map (binder g) ys ≡ map universal args → length ys ≡ length args
   same_length g ys args h = sym (length-map ys (binder g)) ∙ ap length h ∙ length-map args universal
 
-  function_fits : (f : SymKey) (n : ℕ) → f.kind ≡ Function → f.arity ≡ n → fits_symbol Function f n ≡ true
+  -- a function has as many arguments as its arity
+  pub function_fits : (f : SymKey) (n : ℕ) → f.kind ≡ Function → f.arity ≡ n → fits_symbol Function f n ≡ true
   function_fits f n h k = both (same_kind f.kind Function) (nat_eq f.arity n) (ap (λ x. same_kind x Function) h) (ap (λ x. nat_eq x n) k ∙ number_itself n)
 
   applied_over : (g : List Kept) (e : ℕ) (symbol : SymKey) (ys args : List ℕ) → map (binder g) ys ≡ map universal args → IsEntryOver (entry e symbol args) → IsTermOver symbols (applied symbol ys)

@@ -1,22 +1,20 @@
 -- The instances that a root needs are over symbols that all steps' formulas are over.
-use Rattle.std.proofs.Common.{◌≡◌, ◌<◌, ℕ, zero, suc, List, [], ◌∷◌, length, map, refl, sym, subst, arith}
+use Rattle.std.proofs.Common.{◌≡◌, ℕ, zero, suc, List, [], ◌∷◌, length, map, refl, sym, subst, arith}
 use Rattle.std.specs.List.{All}
 use Rattle.dk_syntax.specs.Lists.{Every, every_cons, every_nil}
 use Rattle.dk_syntax.specs.Terms.{instance}
 use Rattle.dk_syntax.specs.declared.clause.Clause.{Clause}
-use Rattle.dk_syntax.specs.declared.clause.Literal.{Literal}
 use Rattle.dk_syntax.specs.declared.symbol.SymKey.{SymKey}
 use Rattle.dk_syntax.specs.declared.term.Term.{Term}
-use Rattle.dk_syntax.specs.declared.term.Term.TheVariants.{Any}
 use Rattle.ground_instances.specs.Instances.{AreInstances, IsInstance, key_of, keys_of}
-use Rattle.ground_instances.specs.Keys.{Has, imaged, IsClauseOf, Key, key, listed, middle}
+use Rattle.ground_instances.specs.Keys.{imaged, IsClauseOf, Key, listed, middle}
 use Rattle.ground_instances.specs.Needs.{by_base, by_chain, by_clauses, by_image, by_leaf, by_parent, by_stage, by_thin, done, fresh, ground, named_by, Needs, of_image, of_parents, of_stage, seen, stage_before, value_in, Visits}
 use Rattle.ground_instances.specs.declared.instance.Instance.{Instance}
 use Rattle.normal_form.specs.ClauseLists.{clause_rows}
 use Rattle.plan.specs.Laws.{AreRightSteps, AreWellFormed, judged_of}
 use Rattle.plan_symbols.proofs.RowsOver.{every_slice, rows_over}
 use Rattle.plan_symbols.proofs.TermsOver.{any_over, every_append, every_first, every_map, every_rest, instance_over, substituted_over}
-use Rattle.plan_symbols.proofs.VerdictsOver.{AreStepsOver, IsChainOver, PutNoOthers, stands_over, verdict_over}
+use Rattle.plan_symbols.proofs.VerdictsOver.{AreStepsOver, PutNoOthers, stands_over, verdict_over}
 use Rattle.plan_symbols.specs.Known.{IsClauseOver, JustificationOver}
 use Rattle.plan_symbols.specs.Over.{IsLiteralOver, IsTermOver}
 use Rattle.step_check.specs.Steps.{Case}

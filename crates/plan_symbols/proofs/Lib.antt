@@ -1,6 +1,9 @@
 pub mod FormsOver
+pub mod InstanceLaws
 pub mod InstancesOver
+pub mod Justified
 pub mod PremisesOver
+pub mod Repair
 pub mod RootsFormed
 pub mod RowsOver
 pub mod TermsOver

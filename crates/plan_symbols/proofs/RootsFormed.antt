@@ -1,23 +1,18 @@
 -- The terms from which a plan's Skolem terms come are well-formed.
-use Rattle.std.proofs.Common.{◌≡◌, ℕ, List, [], ◌∷◌, ◌++◌, Contains, Option, Some, None, subst, inl, inr}
+use Rattle.std.proofs.Common.{List, [], ◌∷◌, Option, Some, None, subst, inl, inr}
 use Rattle.std.specs.List.{flat_map}
-use Rattle.std.specs.Prelude.{filter_map, IsTrue}
+use Rattle.std.specs.Prelude.{filter_map}
 use Rattle.dk_syntax.specs.Lists.{Every, every_cons, every_nil}
-use Rattle.dk_syntax.specs.WellFormed.{well_formed_term}
-use Rattle.dk_syntax.specs.declared.Problem.{Problem}
 use Rattle.dk_syntax.specs.declared.clause.Literal.{Literal}
 use Rattle.dk_syntax.specs.declared.symbol.SymKey.{SymKey}
-use Rattle.dk_syntax.specs.declared.term.Term.{Term}
 use Rattle.expansion.specs.declared.thin.Thin.{Thin}
 use Rattle.ground_instances.specs.Instances.{clauses_in}
 use Rattle.ground_instances.specs.Lists.{instances_of}
 use Rattle.ground_instances.specs.declared.instance.Instance.{Instance}
 use Rattle.plan.proofs.Membership.{Among, among}
 use Rattle.plan.specs.Laws.{AreRightSteps, AreWellFormed, judged_of}
-use Rattle.plan.specs.OnePlan.{HasWellFormedRoots, roots_of}
-use Rattle.plan.specs.Plans.{IsPlan}
-use Rattle.plan.specs.Thins.{AreThins, IsThinAnswer}
-use Rattle.plan.specs.declared.plan.Plan.{Plan}
+use Rattle.plan.specs.OnePlan.{roots_of}
+use Rattle.plan.specs.Thins.{AreThins}
 use Rattle.plan_symbols.proofs.InstancesOver.{instances_over, IsOverAll}
 use Rattle.plan_symbols.proofs.PremisesOver.{all_over, all_symbols}
 use Rattle.plan_symbols.proofs.TermsOver.{every_append, literal_apart}
@@ -25,10 +20,9 @@ use Rattle.plan_symbols.proofs.ThinsOver.{IsThinAll, thins_over}
 use Rattle.plan_symbols.proofs.VerdictsOver.{AreStepsOver, PutNoOthers}
 use Rattle.plan_symbols.specs.Laws.{RootsAreWellFormed}
 use Rattle.plan_symbols.specs.Over.{IsLiteralOver, IsTermOver}
-use Rattle.skolem_order.specs.Order.{clause_terms, root_terms, thin_terms}
+use Rattle.skolem_order.specs.Order.{clause_terms, thin_terms}
 use Rattle.step_check.specs.Steps.{Case, case_of}
 use Rattle.step_check.specs.declared.verdict.Verdict.{Verdict}
-use Rattle.tstp_trace.specs.declared.step.Trace.{Trace}
 
 every_among : {A : Type 0} {p : A → Type 0} {l : List A} → Every p l → (a : A) → Among l a → p a
 every_among every_nil a m = absurd m

@@ -1,25 +1,24 @@
 -- The clauses of a form whose literals are over a list of symbols.
-use Rattle.std.proofs.Common.{◌≡◌, ℕ, ◌+◌, false, true, List, [], ◌∷◌, ◌++◌, map, Some, slice_get, zero, suc, refl, sym, ap, subst, rules}
+use Rattle.std.proofs.Common.{◌≡◌, ℕ, ◌+◌, false, true, List, [], ◌∷◌, map, Some, slice_get, zero, suc, sym, ap, subst, rules}
+use Rattle.std.proofs.lemmas.Option.{same_Some}
 use Rattle.dk_syntax.specs.Lists.{Every, every_cons, every_nil}
 use Rattle.dk_syntax.specs.declared.clause.Literal.{Literal}
 use Rattle.dk_syntax.specs.declared.symbol.SymKey.{SymKey}
-use Rattle.dk_syntax.specs.declared.term.Term.TheVariants.{Var}
+use Rattle.dk_syntax.specs.declared.term.Term.{Term, the_lemmas as of_terms}
+use Rattle.dk_syntax.specs.declared.term.Term.TheVariants.{Any, App, Var}
 use Rattle.normal_form.proofs.FormInduction.{form_induction}
-use Rattle.normal_form.proofs.FormLaws.{form-All, form-And, form-Ex, form-Lit, form-Or}
+use Rattle.normal_form.proofs.FormLaws.{form-All, form-And, form-Lit, form-Or}
 use Rattle.normal_form.proofs.RowLaws.{rows-All, rows-And, rows-False, rows-Lit, rows-Or}
-use Rattle.normal_form.specs.ClauseLists.{beside, clause_over, clause_rows, pairs_of, quants_of, raw, row_of, rows_of, taking}
-use Rattle.normal_form.specs.Forms.{all, and, ex, form_of, lit, or}
+use Rattle.normal_form.specs.ClauseLists.{beside, clause_rows, pairs_of, quants_of, row_of, rows_of, taking}
+use Rattle.normal_form.specs.Forms.{form_of}
 use Rattle.normal_form.specs.Renaming.{owner, place_of, renamed, renamed_literal}
 use Rattle.normal_form.specs.declared.clause_list.ClauseRow.{ClauseRow}
 use Rattle.normal_form.specs.declared.form.Nf.{Nf, the_lemmas as of_forms}
 use Rattle.normal_form.specs.declared.form.Nf.TheVariants as nf
 use Rattle.normal_form.specs.declared.raw.Raw.{Raw}
-use Rattle.dk_syntax.specs.declared.term.Term.{Term, the_lemmas as of_terms}
-use Rattle.dk_syntax.specs.declared.term.Term.TheVariants.{Any, App}
 use Rattle.plan_symbols.proofs.FormsOver.{HasOver}
 use Rattle.plan_symbols.proofs.TermsOver.{atom_kept, every_append, every_map, literal_apart, literal_over, var_over}
 use Rattle.plan_symbols.specs.Over.{IsLiteralOver, IsTermOver}
-use Rattle.std.proofs.lemmas.Option.{same_Some}
 
 -- ---- new numbers
 
@@ -86,3 +85,7 @@ pub every_slice : {A : Type 0} {p : A → Type 0} (l : List A) (k : ℕ) (a : A)
 every_slice [] k a h e = absurd cc
 every_slice {p = p} (b ∷ l) zero a (every_cons w ws) e = let s : b ≡ a = same_Some b a e in subst p s w
 every_slice (b ∷ l) (suc k) a (every_cons w ws) e = every_slice l k a ws e
+
+pub every_only : {A : Type 0} {p q : A → Type 0} {l : List A} → ((a : A) → p a → q a) → Every p l → Every q l
+every_only w every_nil = every_nil
+every_only w (every_cons {a = a} i h) = every_cons (w a i) (every_only w h)

@@ -1,12 +1,9 @@
 -- The terms of a thin tree are over the symbols that its instance's terms and its map's entries are over.
-use Rattle.std.proofs.Common.{◌≡◌, ◌+◌, ℕ, zero, suc, nat_eq, Bool, true, false, ◌&&◌, List, [], ◌∷◌, ◌++◌, length, map, cond, Option, Some, None, refl, sym, ap, ◌∙◌, subst, eq-eqb}
+use Rattle.std.proofs.Common.{◌≡◌, ◌+◌, ℕ, suc, nat_eq, Bool, true, false, List, [], ◌∷◌, length, map, cond, Option, Some, None, sym, ap, ◌∙◌, subst}
 use Rattle.std.specs.List.{position}
 use Rattle.std.proofs.lemmas.List.{length-map}
 use Rattle.dk_syntax.specs.Lists.{Every, every_cons, every_nil}
-use Rattle.dk_syntax.specs.Symbols.{same_kind}
-use Rattle.dk_syntax.specs.WellFormed.{fits_symbol}
 use Rattle.dk_syntax.specs.declared.formula.Formula.{Formula}
-use Rattle.dk_syntax.specs.declared.symbol.Kind.TheVariants.{Function}
 use Rattle.dk_syntax.specs.declared.symbol.SymKey.{SymKey}
 use Rattle.dk_syntax.specs.declared.term.Term.{Term}
 use Rattle.dk_syntax.specs.declared.term.Term.TheVariants.{App}
@@ -18,15 +15,14 @@ use Rattle.normal_form.specs.Forms.{all, alls, and, ex, exs, Form, form_of, lit,
 use Rattle.normal_form.specs.Normal.{normal_of}
 use Rattle.normal_form.specs.declared.clause_list.ClauseRow.{ClauseRow}
 use Rattle.plan.proofs.FitOrigins.{own_fits}
-use Rattle.plan.proofs.Membership.{Among}
-use Rattle.plan.proofs.StepMaps.{entries_of, sources_of}
+use Rattle.plan.proofs.StepMaps.{sources_of}
 use Rattle.plan.specs.Laws.{AreRightSteps, AreWellFormed, judged_of}
 use Rattle.plan.specs.Maps.{IsMapOf, to_form, to_image}
 use Rattle.plan.specs.Origins.{IsFitEntry}
 use Rattle.plan.specs.Thins.{IsThin, IsTreeOf, of_form, of_image}
-use Rattle.plan_symbols.proofs.FormsOver.{IsEntryOver}
+use Rattle.plan_symbols.proofs.FormsOver.{function_fits, IsEntryOver}
 use Rattle.plan_symbols.proofs.InstancesOver.{value_over}
-use Rattle.plan_symbols.proofs.TermsOver.{any_over, app_over, both, every_append}
+use Rattle.plan_symbols.proofs.TermsOver.{any_over, app_over, every_append}
 use Rattle.plan_symbols.proofs.VerdictsOver.{AreStepsOver, every_of}
 use Rattle.plan_symbols.specs.Over.{IsTermOver}
 use Rattle.step_check.specs.Steps.{Case, stands_in}
@@ -52,12 +48,9 @@ module _ (symbols : List SymKey) where
   values_over v h [] = every_nil
   values_over v h (n ∷ args) = every_cons (h n) (values_over v h args)
 
-  function_fits : (f : SymKey) (n : ℕ) → f.kind ≡ Function → f.arity ≡ n → fits_symbol Function f n ≡ true
-  function_fits f n h k = both (same_kind f.kind Function) (nat_eq f.arity n) (ap (λ x. same_kind x Function) h) (ap (λ x. nat_eq x n) k ∙ eq-eqb n n refl)
-
   entry_term : (v : ℕ → Term) → ((n : ℕ) → IsTermOver symbols (v n)) → (one : SkEntry) → IsEntryOver symbols one → IsTermOver symbols (App one.symbol (map v one.args))
   entry_term v h one w = app_over symbols one.symbol (map v one.args) (record {
-    fits = function_fits one.symbol (length (map v one.args)) w.fit.kind (w.fit.arity ∙ sym (length-map one.args v));
+    fits = function_fits symbols one.symbol (length (map v one.args)) w.fit.kind (w.fit.arity ∙ sym (length-map one.args v));
     listed = w.listed;
     each = values_over v h one.args;
   })

@@ -22,24 +22,22 @@ use Rattle.plan_symbols.specs.Over.{IsListed}
 use Rattle.step_chain.specs.Chains.{IsLeastChain}
 use Rattle.step_chain.specs.declared.chain.Chain.{Chain}
 use Rattle.step_check.proofs.OneRepresentative.{parent_one}
-use Rattle.step_check.proofs.OneVerdict.{one_verdict}
-use Rattle.step_check.specs.Freshness.{freshened, introduced, refused_by, stale}
-use Rattle.step_check.specs.Limits.{full_limit}
+use Rattle.step_check.proofs.OneVerdict.{lists_numbered, one_verdict}
+use Rattle.step_check.specs.Freshness.{freshened, introduced}
 use Rattle.step_check.specs.Representatives as stand
-use Rattle.step_check.specs.Representatives.{HasOneParent, IsDerived, IsFullWithin, IsWithin, MayCompose, Represents}
+use Rattle.step_check.specs.Representatives.{HasOneParent, IsFullWithin, IsWithin, MayCompose, Represents}
 use Rattle.step_check.specs.Steps.{aliens_of, Case, form_of_step, is_conjecture_leaf, own_form, parents_of, step_in}
 use Rattle.step_check.specs.Verdicts as is
 use Rattle.step_check.specs.Verdicts.{AreChained, AreLists, HasVerdict, IsClausalVerdict, IsFlaggedVerdict, IsInferenceVerdict, IsListAt, IsOtherVerdict, IsPlainVerdict, IsWithinAll, map_of}
 use Rattle.step_check.specs.declared.verdict.Verdict.{Verdict}
 use Rattle.step_check.specs.declared.verdict.Verdict.TheVariants.{Chained, Clausal, Composes, Conjecture, Leaf, Over, Structural, Wrong}
-use Rattle.step_clause.specs.Justifications.{IsJustification}
+use Rattle.step_clause.specs.Justifications.{AreNumbered, IsJustification}
 use Rattle.step_clause.specs.declared.justification.Justification.{Justification}
 use Rattle.step_compose.proofs.FullImages.{full_is_image}
 use Rattle.step_compose.specs.Composing.{AreJustified, Composes as IsComposing, symbol_by}
 use Rattle.step_compose.specs.FullImages.{full_image, full_map}
 use Rattle.step_compose.specs.declared.composed.Composed.{Composed}
 use Rattle.step_skolem.specs.Carrying.{carried}
-use Rattle.step_skolem.specs.Images.{IsImage}
 use Rattle.step_skolem.specs.declared.map.SkEntry.{SkEntry}
 use Rattle.tstp_trace.specs.declared.step.Step.{Step}
 
@@ -91,7 +89,7 @@ pub record PutNoOthers (symbols : List SymKey) : Type 0 where
   pub justified : (target : Clause) (lists : List ClauseList) (step : Justification) → IsJustification target lists (Some step)
       → IsClauseOver symbols target → AreListsOver symbols lists → JustificationOver symbols step
   pub chained : (target : Clause) (lists : List ClauseList) (chain : Chain) → IsLeastChain target lists chain
-      → IsClauseOver symbols target → AreListsOver symbols lists → IsChainOver symbols chain
+      → AreNumbered lists → IsClauseOver symbols target → AreListsOver symbols lists → IsChainOver symbols chain
 
 -- each step's formula is over the symbols, and each symbol that a step introduces is one of them
 pub record AreStepsOver (case : Case) (list : List Verdict) (symbols : List SymKey) : Type 0 where
@@ -173,23 +171,23 @@ module _ (case : Case) (list : List Verdict) (right : AreRightSteps case list) (
   justified_over (row ∷ rows) lists (step ∷ steps) (every_cons i w) l h =
       every_cons (put.justified row.clause lists step h.0 i l) (justified_over rows lists steps w l h.1)
 
-  chained_over : (rows : List ClauseRow) (lists : List ClauseList) (chains : List Chain) → AreRowsOver symbols rows → AreListsOver symbols lists → AreChained rows lists chains
+  chained_over : (rows : List ClauseRow) (lists : List ClauseList) (chains : List Chain) → AreNumbered lists → AreRowsOver symbols rows → AreListsOver symbols lists → AreChained rows lists chains
       → Every (IsChainOver symbols) chains
-  chained_over [] lists [] w l h = every_nil
-  chained_over [] lists (chain ∷ chains) w l h = absurd h
-  chained_over (row ∷ rows) lists [] w l h = absurd h
-  chained_over (row ∷ rows) lists (chain ∷ chains) (every_cons i w) l h =
-      every_cons (put.chained row.clause lists chain h.0 i l) (chained_over rows lists chains w l h.1)
+  chained_over [] lists [] n w l h = every_nil
+  chained_over [] lists (chain ∷ chains) n w l h = absurd h
+  chained_over (row ∷ rows) lists [] n w l h = absurd h
+  chained_over (row ∷ rows) lists (chain ∷ chains) n (every_cons i w) l h =
+      every_cons (put.chained row.clause lists chain h.0 n i l) (chained_over rows lists chains n w l h.1)
 
-  clausal_over : {lists : List ClauseList} {rows : List ClauseRow} {v : Verdict} → AreRowsOver symbols rows → AreListsOver symbols lists → IsClausalVerdict lists rows v → IsVerdictOver symbols v
-  clausal_over {lists} {rows} w l (is.clausal steps n h) = justified_over rows lists steps w l h
-  clausal_over {lists} {rows} w l (is.chained chains n h) = chained_over rows lists chains w l h
-  clausal_over w l (is.unjustified number h) = tt
+  clausal_over : {lists : List ClauseList} {rows : List ClauseRow} {v : Verdict} → AreNumbered lists → AreRowsOver symbols rows → AreListsOver symbols lists → IsClausalVerdict lists rows v → IsVerdictOver symbols v
+  clausal_over {lists} {rows} k w l (is.clausal steps n h) = justified_over rows lists steps w l h
+  clausal_over {lists} {rows} k w l (is.chained chains n h) = chained_over rows lists chains k w l h
+  clausal_over k w l (is.unjustified number h) = tt
 
   plain_over : {i : ℕ} {v : Verdict} → IsPlainVerdict case i v → IsVerdictOver symbols v
   plain_over (is.has_exists h) = tt
   plain_over (is.alien symbol h k) = tt
-  plain_over {i} (is.by_clauses lists v h k l c) = clausal_over (own_rows i) (lists_over (parents_of case i) lists l) c
+  plain_over {i} (is.by_clauses lists v h k l c) = clausal_over (lists_numbered case (parents_of case i) lists l) (own_rows i) (lists_over (parents_of case i) lists l) c
 
   composed_over : (i : ℕ) (r : Nf) (composed : Composed) (places : List ℕ) → Has (judged_of case list) i (Composes composed) → HasOver symbols (form_of r)
       → IsComposing r (aliens_of case i) (clause_rows (own_form case i)) places composed → IsComposedOver symbols composed

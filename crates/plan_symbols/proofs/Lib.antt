@@ -1,3 +1,4 @@
+pub mod Chained
 pub mod FormsOver
 pub mod Justified
 pub mod Repair

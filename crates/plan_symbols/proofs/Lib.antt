@@ -1,3 +1,4 @@
+pub mod Chained
 pub mod FormsOver
 pub mod InstanceLaws
 pub mod InstancesOver

@@ -3,6 +3,7 @@ pub mod FormsOver
 pub mod InstanceLaws
 pub mod InstancesOver
 pub mod Justified
+pub mod NoOthers
 pub mod PremisesOver
 pub mod Repair
 pub mod RootsFormed

@@ -1,2 +1,4 @@
 pub mod EveryLaws
 pub mod FormSymbols
+pub mod ImageSymbols
+pub mod SymbolLists

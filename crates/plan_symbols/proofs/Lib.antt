@@ -1,4 +1,9 @@
+pub mod ComposedSymbols
 pub mod EveryLaws
 pub mod FormSymbols
 pub mod ImageSymbols
+pub mod Pigeonhole
+pub mod StepRanks
+pub mod StepSymbols
+pub mod StepsOver
 pub mod SymbolLists

@@ -1,4 +1,5 @@
 pub mod Chained
+pub mod Composed
 pub mod FormsOver
 pub mod Justified
 pub mod Repair

@@ -1,5 +1,5 @@
 -- What stands in a chain is over the symbols over which the target and the parents' clauses are.
-use Rattle.std.proofs.Common.{◌≡◌, ◌<◌, ℕ, zero, suc, ◌+◌, Bool, true, false, cond, nat_lt, List, [], ◌∷◌, ◌++◌, map, Some, inl, inr, length, slice_get, refl, sym, ap, ap₂, ◌∙◌, subst, arith}
+use Rattle.std.proofs.Common.{◌≡◌, ◌<◌, ℕ, zero, suc, Bool, true, false, cond, nat_lt, List, [], ◌∷◌, ◌++◌, map, Some, slice_get, refl, sym, ap, ap₂, ◌∙◌, subst, arith}
 use Rattle.std.proofs.lemmas.Bool.{or_left, or_right}
 use Rattle.std.proofs.lemmas.Bool.Decides.{nat_tests}
 use Rattle.std.proofs.lemmas.Option.{same_Some}
@@ -23,7 +23,7 @@ use Rattle.plan_symbols.specs.Known.{AreListsOver, IsClauseOver, JustificationOv
 use Rattle.plan_symbols.specs.Over.{IsLiteralOver, IsTermOver}
 use Rattle.plan_symbols.specs.Repair.{repaired, repaired_literal, repairing}
 use Rattle.step_chain.proofs.Numbered.{over_numbered}
-use Rattle.step_chain.specs.Chains.{alone, ends, goes, IsChain, IsContinuation, IsLeastChain}
+use Rattle.step_chain.specs.Chains.{alone, ends, goes, IsContinuation, IsLeastChain}
 use Rattle.step_chain.specs.Resolvents.{again, AreTaken, AreUnified, closed_over, closed_terms_over, IsOnce, IsResolvent, kept, left_over, Link, new, none, resolution_by}
 use Rattle.step_chain.specs.declared.chain.Chain.{Chain}
 use Rattle.step_clause.specs.Justifications.{AreNumbered, IsNumbered, IsNumberedList, LiteralsBelow}

@@ -1,5 +1,5 @@
 -- What stands in a chain is over the symbols over which the target and the parents' clauses are.
-use Rattle.std.proofs.Common.{◌≡◌, ◌<◌, ℕ, zero, suc, ◌+◌, Bool, true, false, cond, nat_lt, List, [], ◌∷◌, ◌++◌, map, Some, inl, inr, length, slice_get, refl, sym, ap, ap₂, ◌∙◌, subst, arith}
+use Rattle.std.proofs.Common.{◌≡◌, ◌<◌, ℕ, zero, suc, Bool, true, false, cond, nat_lt, List, [], ◌∷◌, ◌++◌, map, Some, slice_get, refl, sym, ap, ap₂, ◌∙◌, subst, arith}
 use Rattle.std.proofs.lemmas.Bool.{or_left, or_right}
 use Rattle.std.proofs.lemmas.Bool.Decides.{nat_tests}
 use Rattle.std.proofs.lemmas.Option.{same_Some}
@@ -23,7 +23,7 @@ use Rattle.plan_symbols.specs.Known.{AreListsOver, IsClauseOver, JustificationOv
 use Rattle.plan_symbols.specs.Over.{IsLiteralOver, IsTermOver}
 use Rattle.plan_symbols.specs.Repair.{repaired, repaired_literal, repairing}
 use Rattle.step_chain.proofs.Numbered.{over_numbered}
-use Rattle.step_chain.specs.Chains.{alone, ends, goes, IsChain, IsContinuation, IsLeastChain}
+use Rattle.step_chain.specs.Chains.{alone, ends, goes, IsContinuation, IsLeastChain}
 use Rattle.step_chain.specs.Resolvents.{again, AreTaken, AreUnified, closed_over, closed_terms_over, IsOnce, IsResolvent, kept, left_over, Link, new, none, resolution_by}
 use Rattle.step_chain.specs.declared.chain.Chain.{Chain}
 use Rattle.step_clause.specs.Justifications.{AreNumbered, IsNumbered, IsNumberedList, LiteralsBelow}
@@ -54,7 +54,8 @@ lt_true k n h = grind (arith, nat_tests)
 lt_less : (k n : ℕ) → nat_lt k n ≡ true → k < n
 lt_less k n h = grind (arith, nat_tests)
 
-args_agree : (vars : ℕ) (t : ℕ → Term) (args : List Term) → EachBelow vars args → map (substituted (cut vars t)) args ≡ map (substituted t) args
+args_agree : (vars : ℕ) (t : ℕ → Term) (args : List Term) → EachBelow vars args
+    → map (substituted (cut vars t)) args ≡ map (substituted t) args
 args_agree vars t [] h = refl
 args_agree vars t (a ∷ args) h =
     ap₂ (λ x xs. x ∷ xs)
@@ -62,19 +63,22 @@ args_agree vars t (a ∷ args) h =
     (args_agree vars t args (λ k e. h k (or_right (has_variable k a) (any_true (map (has_variable k) args)) e)))
 
 module _ (symbols : List SymKey) where
-  cut_over : (vars : ℕ) (t : ℕ → Term) → ((j : ℕ) → j < vars → IsTermOver symbols (t j)) → (k : ℕ) → IsTermOver symbols (cut vars t k)
+  cut_over : (vars : ℕ) (t : ℕ → Term) → ((j : ℕ) → j < vars → IsTermOver symbols (t j)) → (k : ℕ)
+      → IsTermOver symbols (cut vars t k)
   cut_over vars t h k = by_test (nat_lt k vars) refl
     where
       by_test : (b : Bool) → nat_lt k vars ≡ b → IsTermOver symbols (cond b (t k) Any)
       by_test true e = h k (lt_less k vars e)
       by_test false e = any_over symbols
 
-  instance_below : (vars : ℕ) (t : ℕ → Term) (l : Literal) → EachBelow vars l.args → ((j : ℕ) → j < vars → IsTermOver symbols (t j)) → IsLiteralOver symbols l
+  instance_below : (vars : ℕ) (t : ℕ → Term) (l : Literal) → EachBelow vars l.args
+      → ((j : ℕ) → j < vars → IsTermOver symbols (t j)) → IsLiteralOver symbols l
       → IsLiteralOver symbols (instance t l)
   instance_below vars t l below values h =
       subst (λ args. IsLiteralOver symbols (record l { args = args })) (args_agree vars t l.args below) (instance_over symbols (cut vars t) (cut_over vars t values) l h)
 
-  instances_below : (vars : ℕ) (t : ℕ → Term) (lits : List Literal) → LiteralsBelow vars lits → ((j : ℕ) → j < vars → IsTermOver symbols (t j)) → AreOver symbols lits
+  instances_below : (vars : ℕ) (t : ℕ → Term) (lits : List Literal) → LiteralsBelow vars lits
+      → ((j : ℕ) → j < vars → IsTermOver symbols (t j)) → AreOver symbols lits
       → AreOver symbols (map (instance t) lits)
   instances_below vars t [] below values h = every_nil
   instances_below vars t (l ∷ lits) below values (every_cons w ws) =
@@ -83,28 +87,33 @@ module _ (symbols : List SymKey) where
 
   -- ---- the repaired substitutions take alike
 
-  taken_repaired : (u : ℕ → Term) (pivot : Literal) (clause : List Literal) (taken : List Bool) → AreOver symbols clause → AreTaken u pivot clause taken
+  taken_repaired : (u : ℕ → Term) (pivot : Literal) (clause : List Literal) (taken : List Bool)
+      → AreOver symbols clause → AreTaken u pivot clause taken
       → AreTaken (repairing symbols u) (repaired_literal symbols pivot) clause taken
   taken_repaired u pivot [] [] a h = tt
   taken_repaired u pivot [] (b ∷ taken) a h = h
   taken_repaired u pivot (l ∷ clause) [] a h = h
-  taken_repaired u pivot (l ∷ clause) (true ∷ taken) (every_cons w ws) h = (sym (literal_inside symbols u l w) ∙ ap (repaired_literal symbols) h.0, taken_repaired u pivot clause taken ws h.1)
+  taken_repaired u pivot (l ∷ clause) (true ∷ taken) (every_cons w ws) h =
+      (sym (literal_inside symbols u l w) ∙ ap (repaired_literal symbols) h.0, taken_repaired u pivot clause taken ws h.1)
   taken_repaired u pivot (l ∷ clause) (false ∷ taken) (every_cons w ws) h = taken_repaired u pivot clause taken ws h
 
-  unified_repaired : (sign : Bool) (first second : Clause) (taken others : List Bool) (t u : ℕ → Term) → IsClauseOver symbols first → IsClauseOver symbols second
-      → AreUnified sign first second taken others t u → AreUnified sign first second taken others (repairing symbols t) (repairing symbols u)
+  unified_repaired : (sign : Bool) (first second : Clause) (taken others : List Bool) (t u : ℕ → Term)
+      → IsClauseOver symbols first → IsClauseOver symbols second → AreUnified sign first second taken others t u
+      → AreUnified sign first second taken others (repairing symbols t) (repairing symbols u)
   unified_repaired sign first second taken others t u a b (pred, args, h, k, some, some') =
       (pred, map (repaired symbols) args, taken_repaired t _ first.lits taken a h, taken_repaired u _ second.lits others b k, some, some')
 
   -- ---- what is left
 
-  kept_over : (t : ℕ → Term) (lits : List Literal) (taken : List Bool) → AreOver symbols (map (instance t) lits) → AreOver symbols (map (instance t) (kept lits taken))
+  kept_over : (t : ℕ → Term) (lits : List Literal) (taken : List Bool) → AreOver symbols (map (instance t) lits)
+      → AreOver symbols (map (instance t) (kept lits taken))
   kept_over t [] taken h = every_nil
   kept_over t (l ∷ lits) [] h = every_nil
   kept_over t (l ∷ lits) (true ∷ taken) (every_cons w ws) = kept_over t lits taken ws
   kept_over t (l ∷ lits) (false ∷ taken) (every_cons w ws) = every_cons w (kept_over t lits taken ws)
 
-  once_over : (seen lits lits' : List Literal) → IsOnce seen lits lits' → AreOver symbols lits → AreOver symbols lits'
+  once_over : (seen lits lits' : List Literal) → IsOnce seen lits lits' → AreOver symbols lits
+      → AreOver symbols lits'
   once_over seen lits lits' (none _) h = every_nil
   once_over seen lits lits' (again _ l rest once _ more) h = once_over seen rest once more (every_rest h)
   once_over seen lits lits' (new _ l rest once _ more) h = every_cons (every_first h) (once_over (seen ++ l ∷ []) rest once more (every_rest h))
@@ -115,12 +124,15 @@ module _ (symbols : List SymKey) where
   var_or_any true j = var_over symbols j
   var_or_any false j = any_over symbols
 
-  closed_are_over : (variables : List ℕ) (vars : ℕ) (t : ℕ → Term) → ((j : ℕ) → j < vars → IsTermOver symbols (t j)) → Every (IsTermOver symbols) (closed_terms_over variables vars t)
+  closed_are_over : (variables : List ℕ) (vars : ℕ) (t : ℕ → Term)
+      → ((j : ℕ) → j < vars → IsTermOver symbols (t j))
+      → Every (IsTermOver symbols) (closed_terms_over variables vars t)
   closed_are_over variables vars t h =
       ranged (IsTermOver symbols) (λ j. substituted (closed_over variables) (t j)) 0 vars
       (λ j less. substituted_over symbols (closed_over variables) (λ n. var_or_any (has_number variables n) (place_of variables n)) (t j) (h j (omega (arith, less))))
 
-  signed_over : (sign : Bool) (number other : ℕ) (picks others : List ℕ) (terms terms' : List Term) → Every (IsTermOver symbols) terms → Every (IsTermOver symbols) terms'
+  signed_over : (sign : Bool) (number other : ℕ) (picks others : List ℕ) (terms terms' : List Term)
+      → Every (IsTermOver symbols) terms → Every (IsTermOver symbols) terms'
       → JustificationOver symbols (resolution_by sign number other picks others terms terms')
   signed_over true number other picks others terms terms' a b = (a, b)
   signed_over false number other picks others terms terms' a b = (b, a)
@@ -130,8 +142,9 @@ module _ (symbols : List SymKey) where
     pub lits : IsClauseOver symbols resolvent
     pub numbered : IsNumbered resolvent
 
-  pub resolvent_over : (number : ℕ) (first second : Clause) (link : Link) (resolvent : Clause) (step : Justification) → IsClauseOver symbols first → IsNumbered first
-      → IsClauseOver symbols second → IsNumbered second → IsResolvent number first second link resolvent step → IsResolventOver resolvent step
+  pub resolvent_over : (number : ℕ) (first second : Clause) (link : Link) (resolvent : Clause) (step : Justification)
+      → IsClauseOver symbols first → IsNumbered first → IsClauseOver symbols second → IsNumbered second
+      → IsResolvent number first second link resolvent step → IsResolventOver resolvent step
   resolvent_over number first second link resolvent step a n b m it =
       let t = it.t in
       let u = it.u in
@@ -160,7 +173,8 @@ module _ (symbols : List SymKey) where
     pub numbered : Every IsNumbered clauses
 
   pub continuation_over : (target : Clause) (number : ℕ) (middle : Clause) (lists : List ClauseList) (links : List Link) (mids : List Clause) (steps : List Justification)
-      → IsClauseOver symbols target → IsClauseOver symbols middle → IsNumbered middle → AreListsOver symbols lists → AreNumbered lists
+      → IsClauseOver symbols target → IsClauseOver symbols middle → IsNumbered middle
+      → AreListsOver symbols lists → AreNumbered lists
       → IsContinuation target number middle lists links mids steps → AreStepsOver mids steps
   continuation_over target number middle lists links mids steps a b n h all (ends _ _ last step justified) =
       record {
@@ -179,7 +193,8 @@ module _ (symbols : List SymKey) where
         numbered = every_cons one.numbered others.numbered;
       }
 
-  pub chain_over : (target : Clause) (parents : List ClauseList) (chain : Chain) → IsLeastChain target parents chain → IsClauseOver symbols target → AreListsOver symbols parents
+  pub chain_over : (target : Clause) (parents : List ClauseList) (chain : Chain)
+      → IsLeastChain target parents chain → IsClauseOver symbols target → AreListsOver symbols parents
       → AreNumbered parents → AreStepsOver chain.mids chain.steps
   chain_over target parents chain h a b n =
       let way = h.0 in

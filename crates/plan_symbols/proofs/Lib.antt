@@ -1,4 +1,5 @@
 pub mod Chained
+pub mod Composed
 pub mod ComposedSymbols
 pub mod EveryLaws
 pub mod FormSymbols

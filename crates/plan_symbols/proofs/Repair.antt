@@ -23,7 +23,8 @@ module _ (symbols : List SymKey) (r : ℕ → Term) where
   abbrev ComesBack : Term → Type 0
   ComesBack t = IsTermOver symbols (substituted r t) → IsTermOver symbols t
 
-  args_back : (args : List Term) → ForEach ComesBack args → Every (IsTermOver symbols) (map (substituted r) args) → Every (IsTermOver symbols) args
+  args_back : (args : List Term) → ForEach ComesBack args
+      → Every (IsTermOver symbols) (map (substituted r) args) → Every (IsTermOver symbols) args
   args_back [] known h = every_nil
   args_back (t ∷ args) known (every_cons w ws) = every_cons (known.0 w) (args_back args known.1 ws)
 
@@ -54,7 +55,8 @@ module _ (symbols : List SymKey) where
   repaired-Var : (n : ℕ) → repaired symbols (Var n) ≡ Var n
   repaired-Var n = search (rules, of_terms)
 
-  repaired-App : (f : SymKey) (args : List Term) → repaired symbols (App f args) ≡ repaired_app symbols f (map (repaired symbols) args)
+  repaired-App : (f : SymKey) (args : List Term)
+      → repaired symbols (App f args) ≡ repaired_app symbols f (map (repaired symbols) args)
   repaired-App f args = search (rules, of_terms)
 
   repaired-Any : repaired symbols Any ≡ Any
@@ -63,11 +65,14 @@ module _ (symbols : List SymKey) where
   abbrev IsRepairedOver : Term → Type 0
   IsRepairedOver t = IsTermOver symbols (repaired symbols t)
 
-  args_repaired : (args : List Term) → ForEach IsRepairedOver args → Every (IsTermOver symbols) (map (repaired symbols) args)
+  args_repaired : (args : List Term) → ForEach IsRepairedOver args
+      → Every (IsTermOver symbols) (map (repaired symbols) args)
   args_repaired [] known = every_nil
   args_repaired (t ∷ args) known = every_cons known.0 (args_repaired args known.1)
 
-  app_repaired : (b : Bool) (f : SymKey) (args : List Term) → (stands_in symbols f && fits_symbol Function f (length args)) ≡ b → Every (IsTermOver symbols) args → IsTermOver symbols (cond b (App f args) Any)
+  app_repaired : (b : Bool) (f : SymKey) (args : List Term)
+      → (stands_in symbols f && fits_symbol Function f (length args)) ≡ b → Every (IsTermOver symbols) args
+      → IsTermOver symbols (cond b (App f args) Any)
   app_repaired true f args e h =
       let parts = both_true (stands_in symbols f) (fits_symbol Function f (length args)) e in
       app_over symbols f args (record { fits = parts.1; listed = parts.0; each = h })
@@ -88,11 +93,13 @@ module _ (symbols : List SymKey) where
     abbrev GoesInside : Term → Type 0
     GoesInside t = IsTermOver symbols t → repaired symbols (substituted u t) ≡ substituted (repairing symbols u) t
 
-    args_inside : (args : List Term) → ForEach GoesInside args → Every (IsTermOver symbols) args → map (repaired symbols) (map (substituted u) args) ≡ map (substituted (repairing symbols u)) args
+    args_inside : (args : List Term) → ForEach GoesInside args → Every (IsTermOver symbols) args
+        → map (repaired symbols) (map (substituted u) args) ≡ map (substituted (repairing symbols u)) args
     args_inside [] known h = refl
     args_inside (t ∷ args) known (every_cons w ws) = ap₂ (λ x xs. x ∷ xs) (known.0 w) (args_inside args known.1 ws)
 
-    app_stays : (f : SymKey) (args : List Term) → stands_in symbols f ≡ true → fits_symbol Function f (length args) ≡ true → repaired_app symbols f args ≡ App f args
+    app_stays : (f : SymKey) (args : List Term) → stands_in symbols f ≡ true
+        → fits_symbol Function f (length args) ≡ true → repaired_app symbols f args ≡ App f args
     app_stays f args h k = ap (λ b. cond b (App f args) Any) (both (stands_in symbols f) (fits_symbol Function f (length args)) h k)
 
     pub inside : (t : Term) → GoesInside t
@@ -109,7 +116,8 @@ module _ (symbols : List SymKey) where
         ∙ sym (substituted-App (repairing symbols u) f args))
         (λ h. ap (repaired symbols) (substituted-Any u) ∙ repaired-Any ∙ sym (substituted-Any (repairing symbols u)))
 
-    pub literal_inside : (l : Literal) → IsLiteralOver symbols l → repaired_literal symbols (instance u l) ≡ instance (repairing symbols u) l
+    pub literal_inside : (l : Literal) → IsLiteralOver symbols l
+        → repaired_literal symbols (instance u l) ≡ instance (repairing symbols u) l
     literal_inside l h = ap (λ args. record l { args = args }) (args_inside l.args (for_each GoesInside inside l.args) (literal_apart symbols l h).each)
 
   -- ---- what is over is as it was
@@ -117,7 +125,8 @@ module _ (symbols : List SymKey) where
   abbrev IsKeptSame : Term → Type 0
   IsKeptSame t = IsTermOver symbols t → repaired symbols t ≡ t
 
-  args_same : (args : List Term) → ForEach IsKeptSame args → Every (IsTermOver symbols) args → map (repaired symbols) args ≡ args
+  args_same : (args : List Term) → ForEach IsKeptSame args → Every (IsTermOver symbols) args
+      → map (repaired symbols) args ≡ args
   args_same [] known h = refl
   args_same (t ∷ args) known (every_cons w ws) = ap₂ (λ x xs. x ∷ xs) (known.0 w) (args_same args known.1 ws)
 
@@ -134,5 +143,6 @@ module _ (symbols : List SymKey) where
   literal_same l h = ap (λ args. record l { args = args }) (args_same l.args (for_each IsKeptSame repaired_same l.args) (literal_apart symbols l h).each)
 
   -- an instance that is over the symbols is that of the repaired substitution too
-  pub same_instance : (u : ℕ → Term) (l : Literal) → IsLiteralOver symbols l → IsLiteralOver symbols (instance u l) → instance u l ≡ instance (repairing symbols u) l
+  pub same_instance : (u : ℕ → Term) (l : Literal) → IsLiteralOver symbols l
+      → IsLiteralOver symbols (instance u l) → instance u l ≡ instance (repairing symbols u) l
   same_instance u l h k = sym (literal_same (instance u l) k) ∙ literal_inside u l h

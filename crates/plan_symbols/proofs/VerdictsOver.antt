@@ -1,5 +1,5 @@
 -- What stands in the verdicts of a right trace is over symbols that all steps' formulas are over.
-use Rattle.std.proofs.Common.{◌≡◌, ◌<◌, ◌+◌, ℕ, zero, suc, Bool, true, false, not, List, [], ◌∷◌, ◌++◌, length, Option, Some, None, slice_get, refl, sym, ap, ◌∙◌, subst, inl, inr, arith}
+use Rattle.std.proofs.Common.{◌≡◌, ◌<◌, ℕ, zero, suc, Bool, true, false, not, List, [], ◌∷◌, ◌++◌, length, Option, Some, None, slice_get, refl, sym, ap, ◌∙◌, subst, inl, inr, arith}
 use Rattle.dk_syntax.specs.Lists.{Every, every_cons, every_nil}
 use Rattle.dk_syntax.specs.declared.clause.Clause.{Clause}
 use Rattle.dk_syntax.specs.declared.symbol.SymKey.{SymKey}

@@ -6,7 +6,6 @@ use Rattle.dk_syntax.specs.Symbols.{formula_occurrences}
 use Rattle.dk_syntax.specs.declared.Problem.{Problem}
 use Rattle.expansion.specs.declared.thin.Thin.{Thin}
 use Rattle.ground_instances.specs.Instances.{AreInstances}
-use Rattle.ground_instances.specs.Lists.{instances_of}
 use Rattle.ground_instances.specs.declared.instance.Instance.{Instance}
 use Rattle.plan.specs.Laws.{AreRightSteps, AreWellFormed, judged_of}
 use Rattle.plan.specs.OnePlan.{HasWellFormedRoots}
@@ -16,7 +15,6 @@ use Rattle.plan.specs.Thins.{IsThin}
 use Rattle.plan.specs.declared.plan.Plan.{Plan}
 use Rattle.plan_symbols.specs.Over.{IsListed, IsLiteralOver, IsTermOver, known_symbols}
 use Rattle.skolem_order.specs.declared.origins.Origin.{Origin}
-use Rattle.step_check.specs.Freshness.{AreVerdicts}
 use Rattle.step_check.specs.Steps.{Case, step_in}
 use Rattle.step_check.specs.declared.verdict.Verdict.{Verdict}
 use Rattle.tstp_trace.specs.declared.step.Step.{Step}

@@ -1,5 +1,4 @@
 pub mod Chained
-pub mod Composed
 pub mod ComposedSymbols
 pub mod EveryLaws
 pub mod FormSymbols
@@ -8,6 +7,7 @@ pub mod ImageSymbols
 pub mod InstanceLaws
 pub mod InstancesOver
 pub mod Justified
+pub mod KnownLaws
 pub mod NoOthers
 pub mod Pigeonhole
 pub mod PremisesOver

@@ -1,3 +1,4 @@
+pub mod BodyLaws
 pub mod ChainLinks
 pub mod EigenvariableTurns
 pub mod GroundLaws
@@ -16,6 +17,7 @@ pub mod Numbered
 pub mod Picked
 pub mod Places
 pub mod PlanInstances
+pub mod PlanLaws
 pub mod RootClause
 pub mod RootsOver
 pub mod SpotBodies
@@ -23,4 +25,3 @@ pub mod TermParts
 pub mod TreesThere
 pub mod Turns
 pub mod VerdictFacts
-pub mod PlanLaws

@@ -1,0 +1,4 @@
+pub mod ClauseSteps
+pub mod LetSteps
+pub mod OrderSteps
+pub mod ReasonLaws

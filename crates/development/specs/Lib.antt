@@ -1,1 +1,5 @@
+pub mod Buildable
+pub mod Clauses
 pub mod Development
+pub mod Places
+pub mod Proofs

@@ -1,13 +1,16 @@
 -- The lets of instances, by levels.
 use Rattle.std.proofs.Common.{◌≡◌, ◌+◌, ◌-◌, ◌<◌, ◌≤◌, ℕ, zero, suc, List, [], ◌∷◌, ◌++◌, map, drop, length, get_or, Option, None, Some, refl, sym, ap, ap₂, ◌∙◌, arith, append-nil, append_assoc}
 use Rattle.std.specs.Prelude.{slice_get}
+use Rattle.std.proofs.lemmas.List.{length-map}
 use Rattle.std.proofs.lemmas.Option.{slice_get_past}
 use Rattle.assemble.specs.Justification.{Instance as TheoryInstance}
 use Rattle.assemble.specs.Problem.{theory_conclusion}
 use Rattle.dk_syntax.specs.declared.Problem.{Problem}
 use Rattle.expansion.specs.declared.thin.Thin.{Thin}
 use Rattle.ground_instances.specs.Lists.{instances_of}
+use Rattle.ground_instances.specs.Rows.{written}
 use Rattle.ground_instances.specs.declared.instance.Instance.{Instance}
+use Rattle.ground_instances.specs.declared.instance.Instances.{Instances}
 use Rattle.lp_term.specs.ProofTerms.{let_term}
 use Rattle.plan.specs.declared.plan.Plan.{Plan}
 use Rattle.plan_typing.specs.Reasons.{theory_instance, theory_instances, theory_instances_of}
@@ -19,6 +22,7 @@ use Rattle.assemble.specs.Body.{reason_proof}
 use Rattle.assemble.specs.Justification.{Reason}
 use Rattle.assemble.specs.Levels.{Inside, Levels, abstractions_at, at_level, lets_at, place_at}
 use Rattle.development.specs.Clauses.{abstracted, typed}
+use Rattle.development.specs.Lets.{let_built, lets_from}
 use Rattle.development.specs.Places.{levels_in}
 use Rattle.lp_term.specs.Connectives.{bot, proof_of}
 use Rattle.lp_term.specs.LambdaPi.{Term, lam, pi, shift, var}
@@ -90,6 +94,19 @@ abstracted_is d n p r =
 
 -- ---- the instances from a number on
 
+element_at : {A : Type 0} (l : List A) (k : ℕ) → k < length l → (a : A) × (slice_get l k ≡ Some a)
+element_at [] k h = absurd (omega arith)
+element_at (a ∷ l) zero h = (a, refl)
+element_at (a ∷ l) (suc k) h = element_at l k (omega arith)
+
+-- a list has one element at a number
+pub some_same : {A : Type 0} {o : Option A} {a b : A} → o ≡ Some a → o ≡ Some b → a ≡ b
+some_same p q = cc
+
+-- the instance of a number
+pub instance_there : (list : Instances) (k : ℕ) → k < length list.rows → (it : Instance) × (slice_get (instances_of list) k ≡ Some it)
+instance_there list k h = let within : k < length (instances_of list) = rw (length-map list.rows (written list.table)) h in element_at (instances_of list) k within
+
 module _ (problem : Problem) (trace : Trace) (plan : Plan) where
   pub drop_at : (instances : List Instance) (thins : List (Option Thin)) (k : ℕ) (it : Instance) → slice_get instances k ≡ Some it
       → drop k (theory_instances_of problem trace plan instances thins)
@@ -110,24 +127,12 @@ module _ (problem : Problem) (trace : Trace) (plan : Plan) where
   drop_none (one ∷ rest) [] (suc k) h = drop_none rest [] k (omega arith)
   drop_none (one ∷ rest) (thin ∷ thins) (suc k) h = drop_none rest thins k (omega arith)
 
-  -- the let of an instance, over the lets after it
-  abbrev pub let_built : (first begin number : ℕ) → Instance → Term → Term
-  let_built first begin number it rest =
-      let p = levels_in (length problem.hyps) first (length plan.order) begin number in
-      let i = theory_instance problem trace plan it (get_or plan.thins number None) in
-      let_term (clause_type (place_at (begin + number) p).eigenvariables i.clause) (abstractions_at i.clause (begin + number) p [] i.by) rest
-
-  -- the lets from a number on
-  abbrev pub lets_from : (first begin number : ℕ) → Term
-  lets_from first begin number =
-      lets_at (begin + number) (levels_in (length problem.hyps) first (length plan.order) begin number) (drop number (theory_instances problem trace plan)) (theory_conclusion problem.conjecture)
-
   pub lets_step : (first begin number : ℕ) (it : Instance) → slice_get (instances_of plan.instances) number ≡ Some it
-      → lets_from first begin number ≡ let_built first begin number it (lets_from first begin (suc number))
+      → lets_from problem trace plan first begin number ≡ let_built problem trace plan first begin number it (lets_from problem trace plan first begin (suc number))
   lets_step first begin number it h =
       let next : suc (begin + number) ≡ begin + suc number = omega arith in
       ap (λ l. lets_at (begin + number) (levels_in (length problem.hyps) first (length plan.order) begin number) l (theory_conclusion problem.conjecture))
       (drop_at (instances_of plan.instances) plan.thins number it h)
-      ∙ ap (let_built first begin number it)
+      ∙ ap (let_built problem trace plan first begin number it)
       (ap₂ (λ n ls. lets_at n (record { hypotheses = range_with_len 0 (length problem.hyps); denied = length problem.hyps; first = first; count = length plan.order; done = ls })
       (drop (suc number) (theory_instances problem trace plan)) (theory_conclusion problem.conjecture)) next (range_end begin number))

@@ -1,3 +1,4 @@
+pub mod LetLaws
 pub mod ClauseSteps
 pub mod LetSteps
 pub mod OrderSteps

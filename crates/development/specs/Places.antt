@@ -1,5 +1,5 @@
 -- Places of the body.
-use Rattle.std.specs.Prelude.{◌≡◌, ℕ, ◌+◌, length}
+use Rattle.std.specs.Prelude.{◌≡◌, ℕ, ◌+◌, ◌<◌, ◌≤◌, length}
 use Rattle.std.specs.List.{range_with_len}
 use Rattle.assemble.specs.Fitting.{symbols_of}
 use Rattle.assemble.specs.Levels.{Levels}
@@ -25,7 +25,9 @@ abbrev pub levels_in : (denied first count begin done : ℕ) → Levels
 levels_in denied first count begin done =
     record { hypotheses = range_with_len 0 denied; denied = denied; first = first; count = count; done = range_with_len begin done }
 
--- the Skolem symbols and the number of hypotheses are those of the plan and the problem
+-- the Skolem symbols and the number of hypotheses are those of the plan and the problem, and all is bound before the instances
 pub record IsGiven (given : Given) : Type 0 where
   pub symbols : given.symbols.now ≡ symbols_of given.plan.now.origins.list
   pub denied : given.denied ≡ length given.problem.now.hyps
+  pub below : given.denied < given.begin
+  pub room : given.first + (length given.plan.now.order + length given.plan.now.order) ≤ given.begin

@@ -4,4 +4,5 @@
 mod clauses;
 mod given;
 mod instances;
+mod lets;
 mod lookups;

@@ -51,7 +51,7 @@ up_one : {n : ℕ} {ls : List ℕ} → Every (λ l. l < n) ls → Every (λ l. l
 up_one every_nil = every_nil
 up_one (every_cons h hs) = every_cons (omega arith) (up_one hs)
 
-inside_up : {n : ℕ} {p : Levels} → Inside n p → Inside (suc n) p
+pub inside_up : {n : ℕ} {p : Levels} → Inside n p → Inside (suc n) p
 inside_up {n = n} {p = p} h =
     let denied : p.denied < suc n = omega (arith, h.denied) in
     let eigens : p.first + (p.count + p.count) ≤ suc n = omega (arith, h.eigens) in

@@ -1,5 +1,10 @@
-pub mod LetLaws
+pub mod BodyLaws
 pub mod ClauseSteps
+pub mod FamilyLaws
+pub mod LetLaws
 pub mod LetSteps
+pub mod NestLaws
+pub mod NestSteps
 pub mod OrderSteps
 pub mod ReasonLaws
+pub mod UnderSteps

@@ -31,3 +31,9 @@ pub record IsGiven (given : Given) : Type 0 where
   pub denied : given.denied ≡ length given.problem.now.hyps
   pub below : given.denied < given.begin
   pub room : given.first + (length given.plan.now.order + length given.plan.now.order) ≤ given.begin
+
+-- where the first eigenvariable and the first instance are bound
+pub record IsLaidOut (given : Given) : Type 0 where
+  pub none : length given.plan.now.order ≡ 0 → given.first ≡ given.denied + 1
+  pub some : 0 < length given.plan.now.order → given.first ≡ given.denied + 3
+  pub begin : given.begin ≡ given.first + (length given.plan.now.order + length given.plan.now.order)

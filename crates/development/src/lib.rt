@@ -1,8 +1,11 @@
 //! The development of a problem and a plan.
 #![tactic(auto)]
 
+mod body;
 mod clauses;
+mod families;
 mod given;
 mod instances;
 mod lets;
 mod lookups;
+mod nest;

@@ -1,9 +1,9 @@
 -- The parts of the body around the lets.
-use Rattle.std.proofs.Common.{◌≡◌, ◌+◌, ◌-◌, ◌<◌, ◌≤◌, ℕ, zero, suc, List, [], ◌∷◌, map, take, drop, length, get_or, refl, sym, ap, ap₂, ◌∙◌, arith}
+use Rattle.std.proofs.Common.{◌≡◌, ◌+◌, ◌-◌, ◌<◌, ◌≤◌, ℕ, zero, suc, List, [], ◌∷◌, map, take, length, get_or, refl, sym, ap, ◌∙◌, arith}
 use Rattle.std.proofs.lemmas.List.{length-map}
-use Rattle.std.specs.List.{range_with_len}
+use Rattle.std.specs.List.{All}
 use Rattle.assemble.specs.Fitting.{eigenvariable_of, eigenvariables_of}
-use Rattle.assemble.specs.Levels.{at_level, lets_at}
+use Rattle.assemble.specs.Levels.{lets_at}
 use Rattle.assemble.specs.Places.{last_of}
 use Rattle.assemble.specs.Problem.{theory_conclusion, theory_formulas}
 use Rattle.development.proofs.LetSteps.{drop_none, last_levels}
@@ -11,6 +11,7 @@ use Rattle.development.specs.Lets.{lets_from}
 use Rattle.development.specs.Nest.{assumed, drinking, first_level, inner, nested}
 use Rattle.development.specs.Places.{levels_in}
 use Rattle.dk_syntax.specs.Lists.{Every, every_cons}
+use Rattle.dk_syntax.specs.WellFormed.{IsClosed}
 use Rattle.dk_syntax.specs.declared.Named.{Named}
 use Rattle.dk_syntax.specs.declared.Problem.{Problem}
 use Rattle.ground_instances.specs.Lists.{instances_of}
@@ -107,3 +108,9 @@ module _ (problem : Problem) (trace : Trace) (plan : Plan) where
       (en ∙ (λ k. nested denied first 0 es (ec k) (el k))
       ∙ (λ k. nested denied first 0 es (sentence f) (lets_at (level k) (levels_in (sym d k) first (same k) begin 0) list f))
       ∙ (λ k. nested denied (first_same k) 0 es (sentence f) (lets_at (begin_same k) (levels_in denied (first_same k) (length es) (begin_same k) 0) list f)))
+
+-- each hypothesis is closed
+pub all_closed : (hyps : List Named) → Every IsClosed (map (λ named. named.formula) hyps) → All (λ (h : Named). IsClosed h.formula) hyps
+all_closed [] e k d h = absurd (omega arith)
+all_closed (one ∷ hyps) (every_cons c cs) zero d h = c
+all_closed (one ∷ hyps) (every_cons c cs) (suc k) d h = all_closed hyps cs k d (omega arith)

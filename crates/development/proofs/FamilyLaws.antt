@@ -1,5 +1,5 @@
 -- Origin formulas as they are built.
-use Rattle.std.proofs.Common.{◌≡◌, ℕ, zero, suc, Bool, true, false, cond, List, [], ◌∷◌, map, get_or, Some, refl, sym, ap, ap₂, ◌∙◌, rules}
+use Rattle.std.proofs.Common.{◌≡◌, ℕ, zero, suc, Bool, true, cond, List, [], ◌∷◌, map, get_or, Some, refl, sym, ap, ap₂, ◌∙◌, rules}
 use Rattle.assemble.proofs.ViewLaws.{translated_same}
 use Rattle.assemble.specs.Fitting.{body_of, eigenvariable_at, eigenvariable_from, eigenvariable_of, output_of, put_for, quantified_by, symbols_of}
 use Rattle.dk_syntax.proofs.FormulaLaws.{formula_induction}
@@ -12,8 +12,8 @@ use Rattle.lp_term.specs.LambdaPi.{Term as TheoryTerm, shift, under_binder}
 use Rattle.lp_term.specs.Names.{any_name}
 use Rattle.nd_term.proofs.OutputSteps.{output-Any}
 use Rattle.nd_term.specs.Eigenvariables.{origin_body}
-use Rattle.nd_term.specs.Formulas.{GroundTerm, ground_symbol}
-use Rattle.nd_term.specs.Outputs.{ground_of, output}
+use Rattle.nd_term.specs.Formulas.{ground_symbol}
+use Rattle.nd_term.specs.Outputs.{output}
 use Rattle.nd_term.specs.Spots.{value_of, values_of}
 use Rattle.nd_term.specs.Translation.{translated, translated_ground}
 use Rattle.nd_term.specs.Views.{theory_formula}

@@ -11,7 +11,6 @@ use Rattle.ground_instances.specs.Lists.{instances_of}
 use Rattle.ground_instances.specs.Rows.{written}
 use Rattle.ground_instances.specs.declared.instance.Instance.{Instance}
 use Rattle.ground_instances.specs.declared.instance.Instances.{Instances}
-use Rattle.lp_term.specs.ProofTerms.{let_term}
 use Rattle.plan.specs.declared.plan.Plan.{Plan}
 use Rattle.plan_typing.specs.Reasons.{theory_instance, theory_instances, theory_instances_of}
 use Rattle.tstp_trace.specs.declared.step.Trace.{Trace}
@@ -25,11 +24,11 @@ use Rattle.development.specs.Clauses.{abstracted, typed}
 use Rattle.development.specs.Lets.{let_built, lets_from}
 use Rattle.development.specs.Places.{levels_in}
 use Rattle.lp_term.specs.Connectives.{bot, proof_of}
-use Rattle.lp_term.specs.LambdaPi.{Term, lam, pi, shift, var}
+use Rattle.lp_term.specs.LambdaPi.{lam, pi, var}
 use Rattle.nd_term.proofs.InstanceTypes.{clause_shift}
 use Rattle.nd_term.specs.Formulas.{Literal}
 use Rattle.nd_term.specs.Instances.{clause_type}
-use Rattle.nd_term.specs.Places.{eigenvariables_at, last_variables}
+use Rattle.nd_term.specs.Places.{last_variables}
 use Rattle.nd_term.specs.Translation.{literal_type}
 
 -- ---- consecutive levels

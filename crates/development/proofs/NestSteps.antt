@@ -1,12 +1,12 @@
 -- The nest, from the last eigenvariable to the first.
-use Rattle.std.proofs.Common.{◌≡◌, ◌+◌, ◌-◌, ◌<◌, ◌≤◌, ℕ, zero, suc, List, [], ◌∷◌, ◌++◌, map, drop, length, get_or, Option, None, Some, MatchOption, length-append, refl, sym, ap, ◌∙◌, arith}
+use Rattle.std.proofs.Common.{◌≡◌, ◌+◌, ◌-◌, ◌<◌, ◌≤◌, ℕ, zero, suc, List, [], ◌∷◌, ◌++◌, map, drop, length, get_or, Option, None, Some, MatchOption, length-append, sym, ap, ◌∙◌, arith}
 use Rattle.assemble.specs.Fitting.{eigenvariable_of, eigenvariables_of}
 use Rattle.assemble.specs.Levels.{at_level}
 use Rattle.development.specs.Nest.{chosen, nested}
 use Rattle.dk_syntax.specs.declared.term.Term.{Term as ProgramTerm}
 use Rattle.lp_term.specs.LambdaPi.{Term}
 use Rattle.nd_term.specs.Drinkers.{drinker}
-use Rattle.nd_term.specs.Eigenvariables.{Eigenvariable, origin_body}
+use Rattle.nd_term.specs.Eigenvariables.{origin_body}
 use Rattle.nd_term.specs.Places.{eigenvariables_at}
 use Rattle.skolem_order.specs.declared.origins.Origin.{Origin}
 

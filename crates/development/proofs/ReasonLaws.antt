@@ -1,11 +1,11 @@
 -- What is built for an instance is what its reason says.
-use Rattle.std.proofs.Common.{◌≡◌, ◌+◌, ◌<◌, ℕ, Bool, true, false, List, [], ◌∷◌, map, length, Option, None, Some, refl, sym, ap, ◌∙◌, arith}
+use Rattle.std.proofs.Common.{◌≡◌, ◌+◌, ◌<◌, ℕ, Bool, true, false, List, map, length, Option, None, Some, refl, sym, ap, ◌∙◌, arith}
 use Rattle.std.specs.Prelude.{slice_get}
 use Rattle.dk_syntax.specs.declared.Named.{Named}
 use Rattle.dk_syntax.specs.declared.Problem.{Problem}
 use Rattle.dk_syntax.specs.declared.formula.Formula.{Formula as ProgramFormula}
 use Rattle.assemble.specs.Body.{reason_proof}
-use Rattle.assemble.specs.Fitting.{symbols_of, tree_of}
+use Rattle.assemble.specs.Fitting.{tree_of}
 use Rattle.assemble.specs.Levels.{at_level, place_at}
 use Rattle.assemble.specs.Places.{Place as TheoryPlace}
 use Rattle.assemble.specs.Problem.{theory_conclusion}
@@ -18,13 +18,13 @@ use Rattle.ground_instances.specs.Keys.{verdict_in}
 use Rattle.ground_instances.specs.declared.instance.Instance.{Instance}
 use Rattle.lp_term.specs.LambdaPi.{Term}
 use Rattle.nd_term.specs.Consumers.{consumer}
-use Rattle.nd_term.specs.Formulas.{Formula, GroundTerm, unassigned}
+use Rattle.nd_term.specs.Formulas.{Formula, unassigned}
 use Rattle.nd_term.specs.Instances.{applied_to, at_place, resolution_proof, subsumption_proof}
 use Rattle.nd_term.specs.Justified.{pivot_atom}
 use Rattle.nd_term.specs.Outputs.{output, place_of}
 use Rattle.nd_term.specs.Places.{eigenvariables, eigenvariables_at, last_variables, witnesses, witnesses_at}
 use Rattle.nd_term.specs.Reading.{read}
-use Rattle.nd_term.specs.ThinReading.{consumer_at, tree_at}
+use Rattle.nd_term.specs.ThinReading.{tree_at}
 use Rattle.nd_term.specs.ThinTrees.{ThinTree}
 use Rattle.nd_term.specs.TreeKinds.{leaves}
 use Rattle.nd_term.specs.Views.{theory_formula}

@@ -1,5 +1,5 @@
 -- The proof of falsity of an instance below its literals' variables, as it is built at a place.
-use Rattle.std.specs.Prelude.{ℕ, ◌+◌, Bool, true, false, List, [], ◌∷◌, length, slice_get, Option, Some, None}
+use Rattle.std.specs.Prelude.{ℕ, ◌+◌, Bool, true, false, [], ◌∷◌, length, slice_get, Option, Some, None}
 use Rattle.expansion.specs.declared.thin.Thin.{Thin}
 use Rattle.dk_syntax.specs.declared.Problem.{Problem}
 use Rattle.ground_instances.specs.Keys.{verdict_in}

@@ -5,7 +5,10 @@ mod body;
 mod clauses;
 mod families;
 mod given;
+mod goal;
 mod instances;
 mod lets;
 mod lookups;
 mod nest;
+
+pub use goal::development;

@@ -1,5 +1,4 @@
 use Rattle.std.proofs.Common.{◌≡◌, ◌-◌, ◌<◌, suc, arith, length, sym, ap, ◌∙◌}
-use Rattle.ground_instances.specs.Lists.{instances_of}
 use Rattle.development.specs.Lets.{let_built, lets_from}
 use Rattle.development.proofs.LetSteps.{instance_there, lets_step}
 use Rattle.development.proofs.lets.lets.Goals as goal

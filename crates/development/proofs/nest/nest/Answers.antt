@@ -1,4 +1,4 @@
-use Rattle.std.proofs.Common.{◌≡◌, ◌-◌, ◌≤◌, length, get_or, sym, ap, ◌∙◌, arith}
+use Rattle.std.proofs.Common.{◌≡◌, ◌-◌, length, get_or, sym, ap, ◌∙◌, arith}
 use Rattle.lp_term.specs.View.{term_of}
 use Rattle.development.proofs.NestSteps.{nested_step, popped}
 use Rattle.development.proofs.nest.nest.Goals as goal

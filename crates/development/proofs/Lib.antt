@@ -6,5 +6,6 @@ pub mod LetSteps
 pub mod NestLaws
 pub mod NestSteps
 pub mod OrderSteps
+pub mod PlanLaws
 pub mod ReasonLaws
 pub mod UnderSteps

@@ -1,0 +1,11 @@
+pub mod BodyLaws
+pub mod ClauseSteps
+pub mod FamilyLaws
+pub mod LetLaws
+pub mod LetSteps
+pub mod NestLaws
+pub mod NestSteps
+pub mod OrderSteps
+pub mod PlanLaws
+pub mod ReasonLaws
+pub mod UnderSteps

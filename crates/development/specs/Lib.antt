@@ -1,1 +1,9 @@
+pub mod Buildable
+pub mod Clauses
 pub mod Development
+pub mod Families
+pub mod Laws
+pub mod Lets
+pub mod Nest
+pub mod Places
+pub mod Proofs

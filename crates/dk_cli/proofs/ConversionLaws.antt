@@ -1,5 +1,5 @@
 -- What no conversion refuses.
-use Rattle.std.proofs.Common.{ℕ, List, Ok, Err, None, Some, sym, subst}
+use Rattle.std.proofs.Common.{ℕ, List, Ok, Err, sym, subst}
 use Rattle.std.specs.declared.result.Result.{Result}
 use Rattle.derivation_graph.specs.declared.Graph.{Graph}
 use Rattle.dk_syntax.specs.declared.Problem.{Problem}
@@ -7,9 +7,10 @@ use Rattle.flat_steps.specs.declared.Instance.{Instance}
 use Rattle.flat_steps.specs.declared.PlanFault.{PlanFault}
 use Rattle.flat_steps.specs.declared.PlanFault.TheVariants as plan_fault
 use Rattle.tstp_trace.specs.declared.Trace.{Trace}
-use Rattle.dk_cli.specs.Conversion.{ArePlanned, IsBoundedDeveloped, IsBuilt, IsDeveloped, IsFlatDeveloped, IsPlanIn, IsRightDeveloped, IsRootIn, IsWritten, plan_refusal}
+use Rattle.dk_cli.specs.Conversion.{ArePlanned, IsBoundedDeveloped, IsBuilt, IsDeveloped, IsFlatDeveloped, IsPlanIn, IsRightDeveloped, IsWritten, plan_refusal}
 use Rattle.step_check.specs.declared.verdict.Verdicts.{Verdicts}
 use Rattle.dk_cli.specs.Judging.{IsJudged}
+use Rattle.dk_cli.specs.Planning.{IsRootIn}
 use Rattle.dk_cli.specs.Stages.{Follows}
 use Rattle.dk_cli.specs.Weight.{IsWeighed}
 use Rattle.dk_cli.specs.declared.derivation.Derivation.{Derivation}
@@ -17,16 +18,13 @@ use Rattle.dk_cli.specs.declared.refusal.Refusal.{Refusal}
 use Rattle.dk_cli.specs.declared.refusal.Refusal.TheVariants as refusal
 use Rattle.dk_cli.proofs.DerivationLaws.{IsLater}
 use Rattle.dk_cli.proofs.JudgingLaws.{judged_later}
+use Rattle.dk_cli.proofs.PlanningLaws.{root_later}
 use Rattle.dk_cli.proofs.StageLaws.{Only, only_follows, only_told}
 use Rattle.dk_cli.proofs.WeightLaws.{weighed_later}
 
 plan_later : (fault : PlanFault) → IsLater (plan_refusal fault)
 plan_later (plan_fault.Wrong step reason) = tt
 plan_later plan_fault.Memory = tt
-
-root_later : (problem : Problem) (trace : Trace) (answer : Result ℕ Refusal) → IsRootIn problem trace answer → Only IsLater answer
-root_later problem trace answer (None, h, e) = subst (Only IsLater) (sym e) tt
-root_later problem trace answer (Some root, h, e) = subst (Only IsLater) (sym e) tt
 
 built_later : (problem : Problem) (trace : Trace) (answer : Result Unit Refusal) → IsBuilt problem trace answer → Only IsLater answer
 built_later problem trace (Ok nothing) h = tt

@@ -13,7 +13,8 @@ use Rattle.dk_syntax.specs.declared.Problem.{Problem}
 use Rattle.tstp_trace.specs.Traces.{names_of as trace_names}
 use Rattle.tstp_trace.specs.declared.Step.{Step}
 use Rattle.tstp_trace.specs.declared.Trace.{Trace}
-use Rattle.dk_cli.specs.Conversion.{IsRootIn, formulas_of}
+use Rattle.dk_cli.specs.Planning.{IsRootIn}
+use Rattle.plan.specs.Plans.{formulas_in}
 use Rattle.step_check.specs.Steps.{node_of, nodes_of}
 use Rattle.dk_cli.specs.Derivations.{IsGraphIn, graph_refusal}
 use Rattle.dk_cli.specs.Stages.{IsToldBy, told_by}
@@ -45,8 +46,8 @@ module _ (trace : Trace) (graph : Graph) (derived : IsGraphAnswer (nodes_of trac
   root_stands problem root (None, h, e) = absurd cc
   root_stands problem root (Some found, h, e) =
       let same : root ≡ found = found_same {F = Refusal} root found e in
-      let below : h.0 < length (formulas_of trace) = slice_get_within (formulas_of trace) h.0 _ h.2.0 in
-      let long : length (formulas_of trace) ≡ length trace.steps = length-map trace.steps (λ (step : Step). step.formula) in
+      let below : h.0 < length (formulas_in trace) = slice_get_within (formulas_in trace) h.0 _ h.2.0 in
+      let long : length (formulas_in trace) ≡ length trace.steps = length-map trace.steps (λ (step : Step). step.formula) in
       let all = graph_long in
       (omega (arith, same, h.1), omega (arith, same, h.1))
 

@@ -16,12 +16,14 @@ use Rattle.tstp_trace.specs.declared.Trace.{Trace}
 use Rattle.tstp_trace.specs.declared.TraceFault.TheVariants as trace_fault
 use Rattle.dk_cli.specs.Checking.{IsCheckedIn}
 use Rattle.words.specs.Commands.{Names}
-use Rattle.dk_cli.specs.Commands.{Command, check, convert, extract, help, steps}
-use Rattle.dk_cli.specs.Conversion.{ArePlanned, IsBoundedDeveloped, IsBuilt, IsDeveloped, IsFlatDeveloped, IsPlanIn, IsRightDeveloped, IsRootIn, IsWritten, barred, formulas_of, plan_refusal, root_told}
+use Rattle.dk_cli.specs.Commands.{Command, check, convert, expansion, extract, help, steps}
+use Rattle.dk_cli.specs.Conversion.{ArePlanned, IsBoundedDeveloped, IsBuilt, IsDeveloped, IsFlatDeveloped, IsPlanIn, IsRightDeveloped, IsWritten, plan_refusal}
 use Rattle.dk_cli.specs.Derivations.{IsDerivationAt, IsDerivationIn, IsDerivedBy, IsFile, IsGraphIn, IsProblemIn, IsText, IsTraceIn, derivation, graph_refusal, problem_refusal, text_refusal, trace_refusal}
 use Rattle.dk_cli.specs.Judging.{IsJudged}
 use Rattle.dk_cli.specs.Outcome.{IsGiven, IsOutcome}
+use Rattle.dk_cli.specs.Expansion.{IsExpanded}
 use Rattle.dk_cli.specs.Extraction.{IsExtracted}
+use Rattle.dk_cli.specs.Planning.{IsRootIn}
 use Rattle.dk_cli.specs.StepReport.{IsReported}
 use Rattle.dk_cli.specs.Stages.{Follows, IsToldBy}
 use Rattle.dk_cli.specs.Weight.{IsWeighed}
@@ -34,13 +36,16 @@ use Rattle.step_check.specs.Steps.{nodes_of}
 use Rattle.step_check.specs.declared.verdict.Verdicts.{Verdicts}
 use Rattle.dk_cli.proofs.CheckLaws.{one_checked_in}
 use Rattle.dk_cli.proofs.JudgingLaws.{one_judged, one_reported}
-use Rattle.dk_cli.proofs.ReadDerivations.{read_acyclic}
+use Rattle.dk_cli.proofs.OneExpansion.{one_expanded}
+use Rattle.dk_cli.proofs.PlanningLaws.{one_root_in}
+use Rattle.dk_cli.proofs.ReadDerivations.{read_acyclic, read_formed, read_symbols}
+use Rattle.dk_cli.proofs.Roots.{roots_are_well_formed}
 use Rattle.dk_cli.proofs.StageLaws.{IsOne, one_of_found, one_of_two, one_told}
 use Rattle.dk_cli.proofs.WeightLaws.{one_weighed}
 use Rattle.flat_steps.proofs.PlanLaws.{one_answer}
 use Rattle.tptp_text.proofs.TextLaws.{one_reading}
 use Rattle.flat_steps.specs.Verdicts.{places_of}
-use Rattle.derivation_graph.proofs.AnswerLaws.{one_graph, one_root}
+use Rattle.derivation_graph.proofs.AnswerLaws.{one_graph}
 use Rattle.tstp_trace.proofs.AnswerLaws.{one_problem, one_trace}
 
 -- ---- each stage
@@ -86,10 +91,6 @@ one_derivation names files =
     (λ first. one_of_two (IsFile file.Trace (files names.trace)) (IsDerivationIn first) (one_file file.Trace (files names.trace)) (one_derivation_in first))
 
 module _ (problem : Problem) (trace : Trace) where
-  one_root_in : IsOne refusal.Memory (IsRootIn problem trace)
-  one_root_in one other (found, h, e) (another, k, d) not_one not_other =
-      e ∙ ap root_told (one_root (formulas_of trace) (barred problem trace) found another h k) ∙ sym d
-
   one_built : IsOne refusal.Memory (IsBuilt problem trace)
   one_built (Ok one) (Ok other) h k not_one not_other = refl
   one_built (Ok one) (Err (refusal.Unbuilt file.Problem)) h k not_one not_other = absurd (k h.0)
@@ -133,6 +134,10 @@ one_given (convert names limit) files =
     (λ d read. one_developed limit d (read_acyclic (files names.problem) (files names.trace) d read))
 one_given (steps names) files = one_of_two (IsDerivationAt names files) IsReported (one_derivation names files) one_reported
 one_given (extract names) files = one_of_two (IsDerivationAt names files) IsExtracted (one_derivation names files) (λ d one other h k not_one not_other. h ∙ sym k)
+one_given (expansion names limit) files =
+    one_of_found (IsDerivationAt names files) (IsExpanded limit) (one_derivation names files)
+    (λ d read. one_expanded roots_are_well_formed limit d (read_acyclic (files names.problem) (files names.trace) d read)
+    (read_symbols (files names.problem) (files names.trace) d read) (read_formed (files names.problem) (files names.trace) d read))
 one_given (check name) files = one_of_two (IsFile file.Development (files name)) IsCheckedIn (one_file file.Development (files name)) one_checked_in
 one_given help files = λ one other h k not_one not_other. h ∙ sym k
 

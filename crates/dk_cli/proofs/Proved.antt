@@ -18,7 +18,7 @@ use Rattle.flat_typing.proofs.BodyViews.{view_goal_sorted}
 use Rattle.flat_typing.proofs.PlanTyping.{goal_closed, plan_closed, plan_typed}
 use Rattle.flat_typing.specs.PlanTypes.{IsPlanned}
 use Rattle.lp_text.specs.Print.{text_of}
-use Rattle.tstp_trace.specs.Problems.{IsProblemAnswer}
+use Rattle.plan.specs.Plans.{formulas_in}
 use Rattle.tstp_trace.specs.declared.Step.{Step}
 use Rattle.tstp_trace.specs.declared.Trace.{Trace}
 use Rattle.dk_cli.specs.Answer.{Answers, AnswersCommand, IsTold}
@@ -26,37 +26,30 @@ use Rattle.step_check.specs.Steps.{nodes_of}
 use Rattle.words.specs.Commands.{Names}
 use Rattle.dk_cli.specs.Commands.{Command, convert}
 use Rattle.dk_cli.specs.Delivery.{Change, Delivers}
-use Rattle.dk_cli.specs.Conversion.{ArePlanned, IsBoundedDeveloped, IsBuilt, IsDeveloped, IsFlatDeveloped, IsPlanIn, IsPrinted, IsRightDeveloped, IsRootIn, IsWritten, formulas_of, plan_refusal}
-use Rattle.dk_cli.specs.Derivations.{IsDerivationOf, IsGraphIn, IsProblemIn, IsText, graph_refusal, problem_refusal}
+use Rattle.dk_cli.specs.Conversion.{ArePlanned, IsBoundedDeveloped, IsBuilt, IsDeveloped, IsFlatDeveloped, IsPlanIn, IsPrinted, IsRightDeveloped, IsWritten, plan_refusal}
+use Rattle.dk_cli.specs.Derivations.{IsDerivationOf, IsGraphIn, IsProblemIn, graph_refusal}
 use Rattle.dk_cli.specs.Judging.{IsJudged}
 use Rattle.dk_cli.specs.Outcome.{IsOutcome}
+use Rattle.dk_cli.specs.Planning.{IsRootIn}
 use Rattle.dk_cli.specs.Proof.{IsProofOf, IsProofText, IsReadAlone, WritesProof}
-use Rattle.dk_cli.specs.Stages.{Follows, IsToldBy}
+use Rattle.dk_cli.specs.Stages.{Follows}
 use Rattle.dk_cli.specs.Weight.{IsWeighed}
 use Rattle.dk_cli.specs.declared.derivation.Derivation.{Derivation}
-use Rattle.dk_cli.specs.declared.refusal.File.TheVariants as file
 use Rattle.dk_cli.specs.declared.refusal.Refusal.{Refusal}
 use Rattle.dk_cli.specs.declared.refusal.Status.{Status}
 use Rattle.dk_cli.specs.declared.refusal.Status.TheVariants as status
 use Rattle.dk_cli.proofs.Carried.{refusal_not_done}
 use Rattle.dk_cli.proofs.ReadBack.{read_alone}
-use Rattle.dk_cli.proofs.ReadDerivations.{derivation_read}
+use Rattle.dk_cli.proofs.ReadDerivations.{derivation_read, problem_has_symbols}
 use Rattle.dk_cli.proofs.StageLaws.{follows_found, found_same, told_found}
 
--- a problem that was read has its symbols
-problem_has_symbols : (bytes : List ℕ) (problem : Problem) → IsProblemIn bytes (Ok problem) → HasItsSymbols problem
-problem_has_symbols bytes problem h =
-    let read = follows_found (IsText file.Problem bytes) (λ items. IsToldBy problem_refusal (IsProblemAnswer items)) problem h in
-    let is : IsProblemAnswer read.0 (Ok problem) = told_found problem_refusal (IsProblemAnswer read.0) problem read.2 in
-    is.symbols
-
 -- the step at the root's place has the formula `$false`
-root_is_false : (problem : Problem) (trace : Trace) (root : ℕ) → IsRootIn problem trace (Ok root) → slice_get (formulas_of trace) (root - 1) ≡ Some False
+root_is_false : (problem : Problem) (trace : Trace) (root : ℕ) → IsRootIn problem trace (Ok root) → slice_get (formulas_in trace) (root - 1) ≡ Some False
 root_is_false problem trace root (None, h, e) = absurd cc
 root_is_false problem trace root (Some found, h, e) =
     let same : root ≡ found = found_same {F = Refusal} root found e in
     let place : root - 1 ≡ h.0 = omega (arith, same, h.1) in
-    ap (slice_get (formulas_of trace)) place ∙ h.2.0
+    ap (slice_get (formulas_in trace)) place ∙ h.2.0
 
 -- what the typing of a plan rests on
 planned_from : (problem : Problem) (trace : Trace) (graph : Graph) (root : ℕ) (instances : List Instance) → HasItsSymbols problem → IsFlatProblem problem

@@ -1,13 +1,8 @@
 -- What `convert` writes of a derivation: the text of a development, or the first refusal.
-use Rattle.std.specs.Prelude.{◌≡◌, ℕ, ◌-◌, Bool, false, List, All, map, nat_eq, Ok, Err, None, Some}
-use Rattle.std.specs.Cmp.Lexicographic.{pointwise}
-use Rattle.std.specs.declared.option.Option.{Option}
+use Rattle.std.specs.Prelude.{◌≡◌, ℕ, ◌-◌, List, All, Ok, Err}
 use Rattle.std.specs.declared.result.Result.{Result}
-use Rattle.dk_syntax.specs.declared.Formula.{Formula}
-use Rattle.dk_syntax.specs.declared.Named.{Named}
 use Rattle.dk_syntax.specs.declared.Problem.{Problem}
 use Rattle.dk_syntax.specs.declared.SymKey.{SymKey}
-use Rattle.derivation_graph.specs.Roots.{IsRootAnswer}
 use Rattle.derivation_graph.specs.declared.Graph.{Graph}
 use Rattle.flat_development.specs.Development.{development_of}
 use Rattle.flat_form.specs.Flat.{IsFlatProblem, IsFlatTrace}
@@ -21,44 +16,16 @@ use Rattle.lp_term.specs.Reserved.{IsFree, IsGrammarName}
 use Rattle.lp_term.specs.declared.Dev.{Dev}
 use Rattle.lp_text.specs.Levels.{commands_over}
 use Rattle.lp_text.specs.Print.{text_of}
-use Rattle.tstp_trace.specs.declared.StepSource.{StepSource}
-use Rattle.tstp_trace.specs.declared.StepSource.TheVariants.{Leaf, Derived}
 use Rattle.tstp_trace.specs.declared.Trace.{Trace}
 use Rattle.step_check.specs.declared.verdict.Verdicts.{Verdicts}
 use Rattle.dk_cli.specs.Judging.{IsJudged}
+use Rattle.dk_cli.specs.Planning.{IsRootIn}
 use Rattle.dk_cli.specs.Stages.{Follows, IsToldBy}
 use Rattle.dk_cli.specs.Weight.{IsWeighed}
 use Rattle.dk_cli.specs.declared.derivation.Derivation.{Derivation}
 use Rattle.dk_cli.specs.declared.refusal.File.TheVariants as file
 use Rattle.dk_cli.specs.declared.refusal.Refusal.{Refusal}
 use Rattle.dk_cli.specs.declared.refusal.Refusal.TheVariants as refusal
-
--- ---- root
-
--- whether the conjecture has the name
-abbrev pub is_conjecture : Option Named → List ℕ → Bool
-is_conjecture None name = false
-is_conjecture (Some conjecture) name = pointwise nat_eq conjecture.name name
-
--- whether a step from that source is a leaf that names the conjecture
-abbrev pub names_conjecture : Option Named → StepSource → Bool
-names_conjecture conjecture (Leaf name) = is_conjecture conjecture name
-names_conjecture conjecture (Derived cth esa parents) = false
-
-abbrev pub formulas_of : Trace → List Formula
-formulas_of trace = map (λ step. step.formula) trace.steps
-
--- which steps can't be the root, since they name the conjecture
-abbrev pub barred : Problem → Trace → List Bool
-barred problem trace = map (λ step. names_conjecture problem.conjecture step.source) trace.steps
-
-abbrev pub root_told : Option ℕ → Result ℕ Refusal
-root_told None = Err refusal.NoRefutation
-root_told (Some root) = Ok root
-
--- The root of a trace: its first step with the formula `$false` that doesn't name the conjecture.
-abbrev pub IsRootIn : Problem → Trace → Result ℕ Refusal → Type 0
-IsRootIn problem trace answer = (found : Option ℕ) × IsRootAnswer (formulas_of trace) (barred problem trace) found × (answer ≡ root_told found)
 
 -- ---- the flat part, which is built
 

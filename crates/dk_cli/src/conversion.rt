@@ -1,73 +1,32 @@
 //! What `convert` makes of a derivation: a text, or the first refusal.
-ghost use Rattle.std.specs.Prelude.{◌≡◌, ◌<◌, All, map, Ok, IfOk, OnOk};
-ghost use Rattle.flat_form.specs.Flat.{IsFlatProblem, IsFlatTrace, is_false};
-ghost use Rattle.dk_cli.specs.Conversion.{HasName, IsBuilt, IsDeveloped, IsFlatDeveloped, IsPlanIn, IsRootIn, IsWritten, barred, is_conjecture, names_conjecture, plan_refusal};
+ghost use Rattle.std.specs.Prelude.{◌≡◌, ◌<◌, All, Ok, OnOk};
+ghost use Rattle.dk_cli.specs.Conversion.{HasName, IsBuilt, IsDeveloped, IsFlatDeveloped, IsWritten, plan_refusal};
+ghost use Rattle.dk_cli.specs.Planning.{IsRootIn};
 ghost use Rattle.dk_cli.specs.Stages.{Answered, told_by};
-ghost use Rattle.dk_cli.specs.Steps.{IsDerived, answer_view, falsities};
+ghost use Rattle.dk_cli.specs.Steps.{IsDerived, answer_view};
 
 use crate::derivation::Derivation;
 use crate::judging::judged;
 use crate::refusal::{File, Refusal};
 use crate::weighing::weighed;
-use derivation_graph::root_by_marks;
 use dk_io::Gate;
-use dk_syntax::{Formula, Named, NoMemory, Problem, Seq, SymKey};
+use dk_syntax::{NoMemory, Problem, Seq, SymKey};
 use flat_development::development;
 use flat_form::{is_flat_problem, is_flat_trace};
 use flat_steps::{Instance, PlanFault, make_plan};
 use lp_term::ident_of;
 use lp_text::print;
+use plan::root_in as first_root;
 use std::alloc::Global;
 use std::thread::Threads;
-use tstp_trace::{StepSource, Trace};
-
-fn is_falsity(formula: &Formula) -> bool
-    ensures { result ≡ is_false formula.now }
-{
-    matches!(formula, Formula::False)
-}
-
-/// Which steps have the formula `$false`: the root is looked for by this alone.
-fn marks(alloc: Global, trace: &Trace) -> Result<Seq<bool>, NoMemory>
-    ensures { IfOk result (λ all. all ≡ falsities trace.now) }
-{
-    let mut all = Seq::new(alloc);
-    for step in trace.steps.as_slice() {
-        all.push(is_falsity(&step.formula))?;
-    }
-    Ok(all)
-}
-
-/// Whether a step from that source is a leaf that names the conjecture.
-fn is_barred(conjecture: &Option<Named>, source: &StepSource) -> bool
-    ensures { result ≡ names_conjecture conjecture.now source.now }
-{
-    match (conjecture, source) {
-        (Some(conjecture), StepSource::Leaf(name)) => conjecture.name.same(name),
-        _ => false,
-    }
-}
-
-fn bars(alloc: Global, problem: &Problem, trace: &Trace) -> Result<Seq<bool>, NoMemory>
-    ensures { IfOk result (λ all. all ≡ barred problem.now trace.now) }
-{
-    let mut all = Seq::new(alloc);
-    for step in trace.steps.as_slice() {
-        all.push(is_barred(&problem.conjecture, &step.source))?;
-    }
-    Ok(all)
-}
+use tstp_trace::Trace;
 
 /// The root of a trace.
 fn root_in(alloc: Global, problem: &Problem, trace: &Trace) -> Result<u32, Refusal>
     ensures { Answered (IsRootIn problem.now trace.now) result }
 {
-    let marks = marks(alloc, trace)?;
-    let barred = bars(alloc, problem, trace)?;
-    if u32::try_from(marks.len()).is_err() {
-        return Err(Refusal::Memory);
-    }
-    match root_by_marks(&marks, &barred) {
+    let found = first_root(alloc, problem, trace)?;
+    match found {
         Some(step) => Ok(step),
         None => Err(Refusal::NoRefutation),
     }

@@ -460,7 +460,7 @@ fn words_and_files_are_looked_for(rt: HostRuntime) -> Result<(), Fail> {
         &["convert", "p", "t", "--limit", "5", "--limit", "6"],
         &["steps", "p", "t", "--limit", "5"],
         &["--help", "p"],
-        &["expansion", "p", "t"],
+        &["expansion", "p", "--workers=2"],
         &["generate", "7"],
     ];
     for words in rows {
@@ -474,7 +474,8 @@ fn words_and_files_are_looked_for(rt: HostRuntime) -> Result<(), Fail> {
     assert!(rt; found.status == Status::Done && found.notes.is_empty());
     assert!(rt; found.out.as_slice() == USAGE.as_bytes());
 
-    let rows: [(&[&str], &str); 4] = [
+    let rows: [(&[&str], &str); 5] = [
+        (&["expansion", "q", "t", "--limit", "65"], "problem"),
         (&["convert", "--limit=65", "--", "p", "q"], "trace"),
         (&["convert", "p", "q"], "trace"),
         (&["extract", "p", "q", "--workers", "64"], "trace"),

@@ -1,7 +1,8 @@
 use Rattle.std.proofs.Common.{Err, ap, subst, sym, ◌∙◌}
 use Rattle.std.proofs.lemmas.Result.{err_from_is_err_and}
-use Rattle.dk_cli.specs.Conversion.{IsBoundedDeveloped, IsFlatDeveloped, IsRightDeveloped, IsRootIn}
+use Rattle.dk_cli.specs.Conversion.{IsBoundedDeveloped, IsFlatDeveloped, IsRightDeveloped}
 use Rattle.dk_cli.specs.Judging.{IsJudged}
+use Rattle.dk_cli.specs.Planning.{IsRootIn}
 use Rattle.dk_cli.specs.Stages.{Answered}
 use Rattle.dk_cli.specs.Steps.{answer_view}
 use Rattle.dk_cli.specs.Weight.{IsWeighed}

@@ -12,7 +12,7 @@ use Rattle.step_check.specs.declared.verdict.Verdict.{Verdict}
 use Rattle.step_check.specs.declared.verdict.Verdict.TheVariants as verdict
 use Rattle.step_check.specs.declared.verdict.Verdicts.{Verdicts}
 use Rattle.dk_cli.specs.Judging.{AreRight, HasVerdicts, IsJudged}
-use Rattle.dk_cli.specs.Stages.{Answered, Follows}
+use Rattle.dk_cli.specs.Stages.{Follows}
 use Rattle.dk_cli.specs.StepReport.{IsReported}
 use Rattle.dk_cli.specs.declared.derivation.Derivation.{Derivation}
 use Rattle.dk_cli.specs.declared.refusal.Refusal.{Refusal}
@@ -85,14 +85,8 @@ one_right list one other h k =
 -- ---- the stages
 
 -- what is answered of a verdict list
-abbrev pub AreHandedOn : Verdicts → Result Verdicts Refusal → Type 0
+abbrev AreHandedOn : Verdicts → Result Verdicts Refusal → Type 0
 AreHandedOn verdicts answer = Follows (AreRight verdicts.list) (λ nothing end. end ≡ Ok verdicts) answer
-
--- the verdicts were told
-pub right_judged : (d : Derivation) (verdicts : Verdicts) (answer : Result Verdicts Refusal) → HasVerdicts d verdicts.list → Answered (AreHandedOn verdicts) answer → Answered (IsJudged d) answer
-right_judged d verdicts (Ok given) h k = (verdicts, h, k)
-right_judged d verdicts (Err refusal.Memory) h k = tt
-right_judged d verdicts (Err other) h k = (verdicts, h, k)
 
 -- verdicts that are handed on are the derivation's, and none is bad
 pub record AreRightOf (d : Derivation) (verdicts : Verdicts) : Type 0 where

@@ -9,10 +9,16 @@ pub mod Expanded
 pub mod Extracted
 pub mod JudgingLaws
 pub mod OneFile
+pub mod LeftOut
+pub mod NoIntroduced
+pub mod OneBody
 pub mod OneExpansion
 pub mod OneOutcome
 pub mod OneReport
+pub mod OneTerm
+pub mod PlanBody
 pub mod PlanningLaws
+pub mod ProperPlans
 pub mod Proved
 pub mod ReadBack
 pub mod ReadDerivations

@@ -7,13 +7,13 @@ use Rattle.plan.proofs.OnePlan.{plans_are_one}
 use Rattle.plan.specs.Laws.{AreWellFormed}
 use Rattle.plan.specs.Plans.{IsPlan}
 use Rattle.plan.specs.declared.plan.Plan.{Plan}
+use Rattle.plan_symbols.specs.Laws.{RootsAreWellFormed}
 use Rattle.dk_cli.specs.Expansion.{IsExpanded}
 use Rattle.dk_cli.specs.Planning.{IsPlanOf}
 use Rattle.dk_cli.specs.declared.derivation.Derivation.{Derivation}
 use Rattle.dk_cli.specs.declared.refusal.Refusal.TheVariants.{Memory}
 use Rattle.dk_cli.proofs.OneReport.{one_report}
 use Rattle.dk_cli.proofs.PlanningLaws.{plan_found, plan_refuses}
-use Rattle.dk_cli.proofs.Roots.{RootsAreWellFormed}
 use Rattle.dk_cli.proofs.StageLaws.{IsOne, one_of_refusing}
 
 module _ (roots : RootsAreWellFormed) (limit : ℕ) (d : Derivation) (acyclic : HasNoCycle d.graph.parents) (symbols : HasItsSymbols d.problem) (formed : AreWellFormed d.trace.steps) where

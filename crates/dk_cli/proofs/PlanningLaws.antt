@@ -31,7 +31,7 @@ use Rattle.dk_cli.specs.declared.refusal.Refusal.TheVariants as refusal
 use Rattle.dk_cli.specs.declared.refusal.StepFault.{StepFault}
 use Rattle.dk_cli.specs.declared.refusal.StepFault.TheVariants as step_fault
 use Rattle.dk_cli.proofs.DerivationLaws.{IsLater}
-use Rattle.dk_cli.proofs.JudgingLaws.{judged_later, one_judged}
+use Rattle.dk_cli.proofs.JudgingLaws.{AreRightOf, judged_later, judged_right, one_judged}
 use Rattle.dk_cli.proofs.StageLaws.{IsOne, Only, RefusesOne, follows_found, found_same, only_follows, refusing_of_found}
 use Rattle.dk_cli.proofs.WeightLaws.{one_weighed, weighed_later}
 
@@ -108,6 +108,12 @@ module _ (limit : ℕ) (d : Derivation) where
       let right = follows_found (IsJudged d) (IsBoundedPlan d limit rooted.0) plan rooted.2 in
       let bounded = follows_found (IsWeighed d limit rooted.0 right.0) (λ nothing. IsPlanned d limit) plan right.2 in
       bounded.2
+
+  pub plan_verdicts : (plan : Plan) → IsPlanOf limit d (Ok plan) → (verdicts : Verdicts) × AreRightOf d verdicts
+  plan_verdicts plan h =
+      let rooted = follows_found (IsRootIn d.problem d.trace) (IsRightPlan d limit) plan h in
+      let right = follows_found (IsJudged d) (IsBoundedPlan d limit rooted.0) plan rooted.2 in
+      (right.0, judged_right d right.0 right.1)
 
 -- ---- one refusal
 

@@ -12,8 +12,11 @@ use Rattle.plan.specs.Laws.{AreWellFormed}
 use Rattle.tptp_text.proofs.TextLaws.{proper_items}
 use Rattle.tptp_text.specs.ProperItems.{IsProper}
 use Rattle.tptp_text.specs.Text.{IsReadAnswer}
-use Rattle.tstp_trace.proofs.ProperLaws.{proper_trace}
-use Rattle.tstp_trace.specs.Problems.{IsProblemAnswer}
+use Rattle.tptp_text.specs.declared.Item.{Item}
+use Rattle.tstp_trace.proofs.KeptLaws.{distinct_problem}
+use Rattle.tstp_trace.proofs.ProperLaws.{proper_problem, proper_trace}
+use Rattle.tstp_trace.specs.Names.{AreDistinct}
+use Rattle.tstp_trace.specs.Problems.{HasProperFormulas, IsProblemAnswer, IsProblemOf, names_of}
 use Rattle.tstp_trace.specs.Traces.{HasProperSteps, IsTraceAnswer}
 use Rattle.tstp_trace.specs.declared.Step.{Step}
 use Rattle.tstp_trace.specs.declared.Trace.{Trace}
@@ -62,12 +65,24 @@ read_acyclic found other d h = let read = derivation_read found other d h in gra
 
 -- ---- what holds of what was read
 
--- a problem that was read has its symbols
-pub problem_has_symbols : (bytes : List ℕ) (problem : Problem) → IsProblemIn bytes (Ok problem) → HasItsSymbols problem
-problem_has_symbols bytes problem h =
-    let read = follows_found (IsText file.Problem bytes) (λ items. IsToldBy problem_refusal (IsProblemAnswer items)) problem h in
-    let is : IsProblemAnswer read.0 (Ok problem) = told_found problem_refusal (IsProblemAnswer read.0) problem read.2 in
-    is.symbols
+module _ (bytes : List ℕ) (problem : Problem) (h : IsProblemIn bytes (Ok problem)) where
+  -- its items
+  items_of_problem : (items : List Item) × IsReadAnswer bytes (Ok items) × IsProblemOf items problem
+  items_of_problem =
+      let read = follows_found (IsText file.Problem bytes) (λ items. IsToldBy problem_refusal (IsProblemAnswer items)) problem h in
+      (read.0, told_found (text_refusal file.Problem) (IsReadAnswer bytes) read.0 read.1, told_found problem_refusal (IsProblemAnswer read.0) problem read.2)
+
+  -- a problem that was read has its symbols
+  pub problem_has_symbols : HasItsSymbols problem
+  problem_has_symbols = items_of_problem.2.symbols
+
+  -- its formulas are proper
+  pub problem_is_proper : HasProperFormulas problem
+  problem_is_proper = let read = items_of_problem in proper_problem read.0 problem read.2 (proper_items bytes (Ok read.0) read.1)
+
+  -- and its names are distinct
+  pub problem_has_names : AreDistinct (names_of problem)
+  problem_has_names = let read = items_of_problem in distinct_problem read.0 problem read.2
 
 -- a trace that was read has proper steps
 trace_is_proper : (bytes : List ℕ) (trace : Trace) → IsTraceIn bytes (Ok trace) → HasProperSteps trace
@@ -87,6 +102,8 @@ steps_well_formed steps proper (suc place) step is =
 pub read_symbols : (found other : Option (List ℕ)) (d : Derivation) → IsDerivationOf found other (Ok d) → HasItsSymbols d.problem
 read_symbols found other d h = let read = derivation_read found other d h in problem_has_symbols read.bytes d.problem read.spelled
 
+pub steps_are_formed : (bytes : List ℕ) (trace : Trace) → IsTraceIn bytes (Ok trace) → AreWellFormed trace.steps
+steps_are_formed bytes trace h = steps_well_formed trace.steps (trace_is_proper bytes trace h)
+
 pub read_formed : (found other : Option (List ℕ)) (d : Derivation) → IsDerivationOf found other (Ok d) → AreWellFormed d.trace.steps
-read_formed found other d h =
-    let read = derivation_read found other d h in steps_well_formed d.trace.steps (trace_is_proper read.others d.trace read.traced)
+read_formed found other d h = let read = derivation_read found other d h in steps_are_formed read.others d.trace read.traced

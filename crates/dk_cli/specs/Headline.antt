@@ -39,7 +39,6 @@ CanCome (extract names) result = Unit {0}
 CanCome (expansion names limit) status.IllTyped = ⊥
 CanCome (expansion names limit) result = Unit {0}
 CanCome (check name) status.Input = ⊥
-CanCome (check name) status.Unbuilt = ⊥
 CanCome (check name) result = Unit {0}
 CanCome help status.Done = Unit {0}
 CanCome help status.WriteFault = Unit {0}

@@ -7,6 +7,7 @@ pub mod Derivations
 pub mod Expansion
 pub mod Extraction
 pub mod Headline
+pub mod Introduced
 pub mod Judging
 pub mod Outcome
 pub mod Planning

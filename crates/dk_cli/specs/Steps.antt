@@ -8,6 +8,7 @@ use Rattle.dk_io.specs.Outside.{Told, IsAbsent, IsFile as IsFileOf, Tells}
 use Rattle.derivation_graph.specs.Graphs.{IsGraphAnswer}
 use Rattle.step_check.specs.Steps.{nodes_of}
 use Rattle.tstp_trace.specs.Names.{AreDistinct}
+use Rattle.tstp_trace.specs.Problems.{HasProperFormulas}
 use Rattle.tstp_trace.specs.Traces.{HaveFitParents, names_of}
 use Rattle.dk_cli.specs.Answer.{IsAnswer, IsOfDevelopment, IsOfTrace, IsTold, LacksOneOf}
 use Rattle.words.specs.Commands.{Names}
@@ -50,3 +51,4 @@ pub record IsDerived (d : Derivation) : Type 0 where
   pub graph : IsGraphAnswer (nodes_of d.trace) (Ok d.graph)
   pub names : AreDistinct (names_of d.trace)
   pub parents : HaveFitParents d.trace.steps
+  pub proper : HasProperFormulas d.problem

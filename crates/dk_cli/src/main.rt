@@ -24,7 +24,6 @@ mod reading;
 mod refusal;
 mod run;
 mod type_lines;
-mod weighing;
 
 use dk_io::{ErrNotes, FileInputs, NoGate, OutSink};
 pub use refusal::{File, ItemFault, Refusal, Status, StepFault, TypeFault};

@@ -10,6 +10,7 @@ ghost use Rattle.dk_cli.specs.Delivery.{Delivers, IsRefused, change};
 ghost use Rattle.dk_cli.specs.Expansion.{WritesReport};
 ghost use Rattle.dk_cli.specs.Extraction.{WritesProblems};
 ghost use Rattle.dk_cli.specs.Headline.{CanCome, CarriesOutEach, DoesOutcome, IsRun, Lacks, NotesByStatus, RefusesWords, WritesByStatus, WritesUsage};
+ghost use Rattle.dk_cli.specs.Introduced.{WritesNoIntroduced};
 ghost use Rattle.dk_cli.specs.Proof.{WritesProof};
 ghost use Rattle.dk_cli.specs.Refusals.{HasNumber};
 ghost use Rattle.dk_cli.specs.StepReport.{WritesLines};
@@ -147,6 +148,12 @@ pub fn run<R: Threads + Sync, I: Inputs, K: Sink, N: Notes, G: Gate>(
     ensures proof { (names : Names) → (limit : ℕ)
         → asked_of (texts words.now) ≡ Some (convert names limit)
         → result ≡ Status.Done → WritesProof (I.told inputs.old) names
+        (change (K.kept out.old) (K.kept out.new) (K.faults out.old) (K.faults out.new)) }
+
+    // No symbol that a step introduces is in that proof, nor is it declared with it.
+    ensures introduced { (names : Names) → (limit : ℕ)
+        → asked_of (texts words.now) ≡ Some (convert names limit)
+        → result ≡ Status.Done → WritesNoIntroduced (I.told inputs.old) names
         (change (K.kept out.old) (K.kept out.new) (K.faults out.old) (K.faults out.new)) }
 
     // With status 0 what `steps` wrote are the lines of the verdicts on the steps, right or wrong.

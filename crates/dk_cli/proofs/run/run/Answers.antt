@@ -1,4 +1,5 @@
 use Rattle.dk_cli.proofs.Carried.{alike_carries, can_come, notes_by, read_lacks, read_only, read_rose, some_carries, some_does, words_if, words_only, writes_by, writes_usage}
+use Rattle.dk_cli.proofs.NoIntroduced.{writes_no_introduced}
 use Rattle.dk_cli.proofs.Proved.{writes_proof}
 use Rattle.dk_cli.proofs.Reported.{writes_lines}
 use Rattle.dk_cli.proofs.Expanded.{writes_report}
@@ -44,6 +45,9 @@ returns-clause-read_lacks g c = λ lacks. let run = c.run_answered.ensures.run i
 
 pub returns-clause-proof : goal.returns-clause-proof
 returns-clause-proof g c = λ names limit asked done. let run = c.run_answered.ensures.run in writes_proof _ _ _ _ run.answer _ _ _ run.answers run.delivers names limit asked done
+
+pub returns-clause-introduced : goal.returns-clause-introduced
+returns-clause-introduced g c = λ names limit asked done. let run = c.run_answered.ensures.run in writes_no_introduced _ _ _ _ run.answer _ _ _ run.answers run.delivers names limit asked done
 
 pub returns-clause-read_only : goal.returns-clause-read_only
 returns-clause-read_only g c = λ fault. let run = c.run_answered.ensures.run in read_only _ _ _ _ run.answer _ _ _ run.answers run.delivers fault

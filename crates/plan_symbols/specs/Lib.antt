@@ -1,2 +1,4 @@
+pub mod Known
 pub mod Laws
 pub mod Over
+pub mod Repair

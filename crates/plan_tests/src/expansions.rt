@@ -9,7 +9,7 @@ use tptp_text::read_items;
 use tstp_trace::{problem_from, trace_from};
 
 /// The plan of a problem and a trace, or the first refusal.
-fn planned<R: Threads + Sync>(
+pub fn planned<R: Threads + Sync>(
     rt: &R,
     alloc: Global,
     problem: &str,
@@ -22,7 +22,7 @@ fn planned<R: Threads + Sync>(
 }
 
 /// The report on the expansion.
-fn report<R: Threads + Sync>(
+pub fn report<R: Threads + Sync>(
     rt: &R,
     alloc: Global,
     problem: &str,
@@ -36,10 +36,10 @@ fn report<R: Threads + Sync>(
     }
 }
 
-const DRINKER_PROBLEM: &str = "fof(g,conjecture,?[X]:(p(X)=>![Y]:p(Y))).
+pub const DRINKER_PROBLEM: &str = "fof(g,conjecture,?[X]:(p(X)=>![Y]:p(Y))).
 ";
 
-const DRINKER_TRACE: &str = "fof(g,conjecture,?[X]:(p(X)=>![Y]:p(Y)),file(x,g)).
+pub const DRINKER_TRACE: &str = "fof(g,conjecture,?[X]:(p(X)=>![Y]:p(Y)),file(x,g)).
 fof(n,negated_conjecture,~?[X]:(p(X)=>![Y]:p(Y)),inference(n,[status(cth)],[g])).
 fof(m,plain,![X]:(p(X)&?[Y]:~p(Y)),inference(f,[status(thm)],[n])).
 fof(s,plain,![X]:(p(X)&~p(f(X))),inference(k,[status(esa)],[m])).
@@ -67,11 +67,11 @@ fn the_drinker_has_one_eigenvariable(rt: HostRuntime) -> Result<(), Fail> {
     Ok(())
 }
 
-const PATH_PROBLEM: &str = "fof(a1,axiom,![Y]:?[X]:r(Y,X)).
+pub const PATH_PROBLEM: &str = "fof(a1,axiom,![Y]:?[X]:r(Y,X)).
 fof(g,conjecture,?[X,Y,Z]:((r(a,X)&r(X,Y))&r(Y,Z))).
 ";
 
-const PATH_TRACE: &str = "fof(a1,axiom,![Y]:?[X]:r(Y,X),file(x,a1)).
+pub const PATH_TRACE: &str = "fof(a1,axiom,![Y]:?[X]:r(Y,X),file(x,a1)).
 fof(g,conjecture,?[X,Y,Z]:((r(a,X)&r(X,Y))&r(Y,Z)),file(x,g)).
 fof(s,plain,![Y]:r(Y,f(Y)),inference(k,[status(esa)],[a1])).
 fof(n,negated_conjecture,~?[X,Y,Z]:((r(a,X)&r(X,Y))&r(Y,Z)),inference(n,[status(cth)],[g])).

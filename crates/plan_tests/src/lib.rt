@@ -4,3 +4,5 @@
 
 #[cfg(test)]
 mod expansions;
+#[cfg(test)]
+mod instances;

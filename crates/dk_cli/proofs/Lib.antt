@@ -23,7 +23,6 @@ pub mod Proved
 pub mod ReadBack
 pub mod ReadDerivations
 pub mod Reported
-pub mod Roots
 pub mod StageLaws
 pub mod Unread
 pub mod WeightLaws

@@ -32,7 +32,7 @@ use Rattle.dk_cli.proofs.ConversionLaws.{one_developed}
 use Rattle.dk_cli.proofs.JudgingLaws.{one_reported}
 use Rattle.dk_cli.proofs.OneExpansion.{one_expanded}
 use Rattle.dk_cli.proofs.ReadDerivations.{read_acyclic, read_formed, read_symbols}
-use Rattle.dk_cli.proofs.Roots.{roots_are_well_formed}
+use Rattle.plan_symbols.proofs.NoOthers.{roots_are_well_formed}
 use Rattle.dk_cli.proofs.StageLaws.{IsOne, one_of_found, one_of_two, one_told}
 use Rattle.tptp_text.proofs.TextLaws.{one_reading}
 use Rattle.derivation_graph.proofs.AnswerLaws.{one_graph}

@@ -1,12 +1,12 @@
 -- Verdicts on the steps of a derivation: one list, one first bad step.
-use Rattle.std.proofs.Common.{◌≡◌, ◌≢◌, ℕ, suc, ◌+◌, ◌-◌, ◌<◌, ◌⊎◌, Bool, true, List, [], ◌∷◌, length, Ok, Err, None, Some, slice_get, inl, inr, refl, sym, ◌∙◌, ap, subst, arith}
+use Rattle.std.proofs.Common.{◌≡◌, ℕ, suc, ◌+◌, ◌-◌, List, [], ◌∷◌, length, Ok, Err, None, Some, slice_get, inl, inr, refl, sym, ◌∙◌, ap, subst}
 use Rattle.std.proofs.lemmas.Bool.{cases_order}
 use Rattle.std.specs.declared.option.Option.{Option}
 use Rattle.std.specs.declared.result.Result.{Result}
 use Rattle.dk_syntax.specs.declared.SymKey.{SymKey}
 use Rattle.extract.specs.StepLines.{lines_of}
 use Rattle.step_check.proofs.OneVerdict.{one_verdict_list}
-use Rattle.step_check.specs.Freshness.{IsBadAt, IsBadFirst, IsFirstBad, freshened, introduced}
+use Rattle.step_check.specs.Freshness.{IsBadFirst, IsFirstBad, freshened}
 use Rattle.step_check.specs.Steps.{case_of}
 use Rattle.step_check.specs.declared.verdict.Verdict.{Verdict}
 use Rattle.step_check.specs.declared.verdict.Verdict.TheVariants as verdict

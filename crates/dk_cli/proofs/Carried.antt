@@ -6,7 +6,7 @@ use Rattle.dk_io.specs.Causes.{Rose}
 use Rattle.dk_io.specs.Outside.{Told}
 use Rattle.dk_cli.specs.Answer.{Answers, AnswersCommand, IsFixed, IsMemory, IsOfDevelopment, IsOfTrace, IsReadFault, IsToldOutcome, LacksFile, Refuses}
 use Rattle.words.specs.Commands.{Names, Text}
-use Rattle.dk_cli.specs.Commands.{AskAlike, Command, asked_of, check, convert, extract, help, steps}
+use Rattle.dk_cli.specs.Commands.{AskAlike, Command, asked_of, check, convert, expansion, extract, help, steps}
 use Rattle.dk_cli.specs.Delivery.{Change, Delivers, IsNoted, IsRefused, IsUntouched}
 use Rattle.dk_cli.specs.Headline.{CanCome, CarriesOutEach, DoesOutcome, IsCarriedOut, IsDone, Lacks, NotesByStatus, RefusesWords, WritesByStatus, WritesUsage}
 use Rattle.dk_cli.specs.Refusals.{line_of, status_of, HasNumber}
@@ -29,11 +29,12 @@ refused_status refusal result notes (inr h) = inr h.1.status
 -- that of no development
 trace_status : (names : Names) (limit : ℕ) (refusal : Refusal) → IsOfTrace refusal
     → CanCome (convert names limit) (status_of refusal) × CanCome (steps names) (status_of refusal) × CanCome (extract names) (status_of refusal)
+    × CanCome (expansion names limit) (status_of refusal)
 trace_status names limit (NotLp at) h = absurd h
 trace_status names limit (NotTyped fault) h = absurd h
-trace_status names limit (Step step (step_fault.Over over)) h = (tt, tt, tt)
-trace_status names limit (Step step fault) h = (tt, tt, tt)
-trace_status names limit refusal h = (tt, tt, tt)
+trace_status names limit (Step step (step_fault.Over over)) h = (tt, tt, tt, tt)
+trace_status names limit (Step step fault) h = (tt, tt, tt, tt)
+trace_status names limit refusal h = (tt, tt, tt, tt)
 
 -- that of no problem and no trace
 development_status : (name : List ℕ) (refusal : Refusal) → IsOfDevelopment refusal → CanCome (check name) (status_of refusal)
@@ -84,6 +85,8 @@ command_can_come told (steps names) before now answer result out notes a f d =
     reading_can_come told (steps names) tt tt tt (λ refusal h. (trace_status names 0 refusal h).1) before now answer result out notes a d
 command_can_come told (extract names) before now answer result out notes a f d =
     reading_can_come told (extract names) tt tt tt (λ refusal h. (trace_status names 0 refusal h).2) before now answer result out notes a d
+command_can_come told (expansion names limit) before now answer result out notes a f d =
+    reading_can_come told (expansion names limit) tt tt tt (λ refusal h. (trace_status names limit refusal h).3) before now answer result out notes a d
 command_can_come told (check name) before now answer result out notes a f d =
     reading_can_come told (check name) tt tt tt (development_status name) before now answer result out notes a d
 command_can_come told help before now answer result out notes a f d = help_can_come result out notes (usage_written answer result out notes f d)
@@ -121,6 +124,7 @@ before_writing : (command : Command) (refusal : Refusal) → Refuses command ref
 before_writing (convert names limit) refusal h = trace_before refusal h
 before_writing (steps names) refusal h = trace_before refusal h
 before_writing (extract names) refusal h = trace_before refusal h
+before_writing (expansion names limit) refusal h = trace_before refusal h
 before_writing (check name) refusal h = development_before refusal h
 before_writing help refusal h = absurd h
 

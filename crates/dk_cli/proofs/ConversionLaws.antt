@@ -1,62 +1,36 @@
--- What no conversion refuses.
-use Rattle.std.proofs.Common.{ℕ, List, Ok, Err, None, Some, sym, subst}
+-- A derivation has one development, and what no conversion refuses.
+use Rattle.std.proofs.Common.{◌≡◌, ℕ, List, Ok, sym, ◌∙◌, ap, subst}
 use Rattle.std.specs.declared.result.Result.{Result}
-use Rattle.derivation_graph.specs.declared.Graph.{Graph}
-use Rattle.dk_syntax.specs.declared.Problem.{Problem}
-use Rattle.flat_steps.specs.declared.Instance.{Instance}
-use Rattle.flat_steps.specs.declared.PlanFault.{PlanFault}
-use Rattle.flat_steps.specs.declared.PlanFault.TheVariants as plan_fault
-use Rattle.tstp_trace.specs.declared.Trace.{Trace}
-use Rattle.dk_cli.specs.Conversion.{ArePlanned, IsBoundedDeveloped, IsBuilt, IsDeveloped, IsFlatDeveloped, IsPlanIn, IsRightDeveloped, IsRootIn, IsWritten, plan_refusal}
-use Rattle.step_check.specs.declared.verdict.Verdicts.{Verdicts}
-use Rattle.dk_cli.specs.Judging.{IsJudged}
-use Rattle.dk_cli.specs.Stages.{Follows}
-use Rattle.dk_cli.specs.Weight.{IsWeighed}
+use Rattle.derivation_graph.specs.Graphs.{HasNoCycle}
+use Rattle.dk_syntax.specs.Problems.{HasItsSymbols}
+use Rattle.lp_text.specs.Print.{text_of}
+use Rattle.plan.proofs.OnePlan.{plans_are_one}
+use Rattle.plan.specs.Laws.{AreWellFormed}
+use Rattle.plan.specs.declared.plan.Plan.{Plan}
+use Rattle.plan_symbols.specs.Laws.{RootsAreWellFormed}
+use Rattle.dk_cli.specs.Conversion.{IsDeveloped, IsWritten}
+use Rattle.dk_cli.specs.Planning.{IsPlanOf}
 use Rattle.dk_cli.specs.declared.derivation.Derivation.{Derivation}
 use Rattle.dk_cli.specs.declared.refusal.Refusal.{Refusal}
-use Rattle.dk_cli.specs.declared.refusal.Refusal.TheVariants as refusal
+use Rattle.dk_cli.specs.declared.refusal.Refusal.TheVariants.{Memory}
 use Rattle.dk_cli.proofs.DerivationLaws.{IsLater}
-use Rattle.dk_cli.proofs.JudgingLaws.{judged_later}
-use Rattle.dk_cli.proofs.StageLaws.{Only, only_follows, only_told}
-use Rattle.dk_cli.proofs.WeightLaws.{weighed_later}
+use Rattle.dk_cli.proofs.OneBody.{one_development}
+use Rattle.dk_cli.proofs.PlanningLaws.{plan_found, plan_later, plan_refuses}
+use Rattle.dk_cli.proofs.StageLaws.{IsOne, Only, one_of_refusing, only_follows}
 
-plan_later : (fault : PlanFault) → IsLater (plan_refusal fault)
-plan_later (plan_fault.Wrong step reason) = tt
-plan_later plan_fault.Memory = tt
+written_later : (d : Derivation) (plan : Plan) (answer : Result (List ℕ) Refusal) → IsWritten d plan answer → Only IsLater answer
+written_later d plan answer (development, is, printed, same) = subst (Only IsLater) (sym same) tt
 
-root_later : (problem : Problem) (trace : Trace) (answer : Result ℕ Refusal) → IsRootIn problem trace answer → Only IsLater answer
-root_later problem trace answer (None, h, e) = subst (Only IsLater) (sym e) tt
-root_later problem trace answer (Some root, h, e) = subst (Only IsLater) (sym e) tt
+pub developed_later : (d : Derivation) (limit : ℕ) (answer : Result (List ℕ) Refusal) → IsDeveloped limit d answer → Only IsLater answer
+developed_later d limit = only_follows IsLater (IsPlanOf limit d) (IsWritten d) (plan_later limit d) (written_later d)
 
-built_later : (problem : Problem) (trace : Trace) (answer : Result Unit Refusal) → IsBuilt problem trace answer → Only IsLater answer
-built_later problem trace (Ok nothing) h = tt
-built_later problem trace (Err (refusal.Unbuilt which)) h = tt
-built_later problem trace (Err other) h = absurd h
+module _ (roots : RootsAreWellFormed) (limit : ℕ) (d : Derivation) (acyclic : HasNoCycle d.graph.parents) (symbols : HasItsSymbols d.problem) (formed : AreWellFormed d.trace.steps) where
+  written_same : (x y : Plan) → IsPlanOf limit d (Ok x) → IsPlanOf limit d (Ok y) → (one other : Result (List ℕ) Refusal) → IsWritten d x one → IsWritten d y other → one ≡ other
+  written_same x y found another one other (made, is, printed, same) (remade, is_also, reprinted, same_also) =
+      let h = plan_found limit d x found in
+      let alike = plans_are_one d.problem d.trace limit x y h (plan_found limit d y another) in
+      let order = alike.order formed (roots d.problem d.trace limit x h symbols formed) in
+      same ∙ ap (λ development. Ok (text_of development)) (one_development d.problem d.trace x y alike order made remade is is_also) ∙ sym same_also
 
-written_later : (problem : Problem) (instances : List Instance) (answer : Result (List ℕ) Refusal) → IsWritten problem instances answer → Only IsLater answer
-written_later problem instances answer h = subst (Only IsLater) (sym h.1) tt
-
-module _ (problem : Problem) (trace : Trace) where
-  planned_later : (graph : Graph) (root : ℕ) (answer : Result (List ℕ) Refusal) → Follows (IsPlanIn problem trace graph root) (IsWritten problem) answer → Only IsLater answer
-  planned_later graph root =
-      only_follows IsLater (IsPlanIn problem trace graph root) (IsWritten problem)
-      (only_told IsLater plan_refusal (ArePlanned problem trace graph root) plan_later)
-      (written_later problem)
-
-  flat_later : (graph : Graph) (root : ℕ) (answer : Result (List ℕ) Refusal) → IsFlatDeveloped problem trace graph root answer → Only IsLater answer
-  flat_later graph root =
-      only_follows IsLater (IsBuilt problem trace) (λ nothing. Follows (IsPlanIn problem trace graph root) (IsWritten problem))
-      (built_later problem trace)
-      (λ nothing. planned_later graph root)
-
-module _ (d : Derivation) (limit : ℕ) where
-  bounded_later : (root : ℕ) (verdicts : Verdicts) (answer : Result (List ℕ) Refusal) → IsBoundedDeveloped d limit root verdicts answer → Only IsLater answer
-  bounded_later root verdicts =
-      only_follows IsLater (IsWeighed d limit root verdicts) (λ nothing. IsFlatDeveloped d.problem d.trace d.graph root) (weighed_later d limit root verdicts)
-      (λ nothing. flat_later d.problem d.trace d.graph root)
-
-  right_developed_later : (root : ℕ) (answer : Result (List ℕ) Refusal) → IsRightDeveloped d limit root answer → Only IsLater answer
-  right_developed_later root = only_follows IsLater (IsJudged d) (IsBoundedDeveloped d limit root) (judged_later d) (bounded_later root)
-
-  pub developed_later : (answer : Result (List ℕ) Refusal) → IsDeveloped limit d answer → Only IsLater answer
-  developed_later = only_follows IsLater (IsRootIn d.problem d.trace) (IsRightDeveloped d limit) (root_later d.problem d.trace) right_developed_later
+  pub one_developed : IsOne Memory (IsDeveloped limit d)
+  one_developed = one_of_refusing (IsPlanOf limit d) (IsWritten d) (plan_refuses limit d acyclic) written_same

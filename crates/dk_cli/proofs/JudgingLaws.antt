@@ -1,18 +1,18 @@
 -- Verdicts on the steps of a derivation: one list, one first bad step.
-use Rattle.std.proofs.Common.{◌≡◌, ◌≢◌, ℕ, suc, ◌+◌, ◌-◌, ◌<◌, ◌⊎◌, Bool, true, List, [], ◌∷◌, length, Ok, Err, None, Some, slice_get, inl, inr, refl, sym, ◌∙◌, ap, subst, arith}
+use Rattle.std.proofs.Common.{◌≡◌, ℕ, suc, ◌+◌, ◌-◌, List, [], ◌∷◌, length, Ok, Err, None, Some, slice_get, inl, inr, refl, sym, ◌∙◌, ap, subst}
 use Rattle.std.proofs.lemmas.Bool.{cases_order}
 use Rattle.std.specs.declared.option.Option.{Option}
 use Rattle.std.specs.declared.result.Result.{Result}
 use Rattle.dk_syntax.specs.declared.SymKey.{SymKey}
 use Rattle.extract.specs.StepLines.{lines_of}
 use Rattle.step_check.proofs.OneVerdict.{one_verdict_list}
-use Rattle.step_check.specs.Freshness.{IsBadAt, IsBadFirst, IsFirstBad, freshened, introduced}
+use Rattle.step_check.specs.Freshness.{IsBadFirst, IsFirstBad, freshened}
 use Rattle.step_check.specs.Steps.{case_of}
 use Rattle.step_check.specs.declared.verdict.Verdict.{Verdict}
 use Rattle.step_check.specs.declared.verdict.Verdict.TheVariants as verdict
 use Rattle.step_check.specs.declared.verdict.Verdicts.{Verdicts}
 use Rattle.dk_cli.specs.Judging.{AreRight, HasVerdicts, IsJudged}
-use Rattle.dk_cli.specs.Stages.{Answered, Follows}
+use Rattle.dk_cli.specs.Stages.{Follows}
 use Rattle.dk_cli.specs.StepReport.{IsReported}
 use Rattle.dk_cli.specs.declared.derivation.Derivation.{Derivation}
 use Rattle.dk_cli.specs.declared.refusal.Refusal.{Refusal}
@@ -85,14 +85,8 @@ one_right list one other h k =
 -- ---- the stages
 
 -- what is answered of a verdict list
-abbrev pub AreHandedOn : Verdicts → Result Verdicts Refusal → Type 0
+abbrev AreHandedOn : Verdicts → Result Verdicts Refusal → Type 0
 AreHandedOn verdicts answer = Follows (AreRight verdicts.list) (λ nothing end. end ≡ Ok verdicts) answer
-
--- the verdicts were told
-pub right_judged : (d : Derivation) (verdicts : Verdicts) (answer : Result Verdicts Refusal) → HasVerdicts d verdicts.list → Answered (AreHandedOn verdicts) answer → Answered (IsJudged d) answer
-right_judged d verdicts (Ok given) h k = (verdicts, h, k)
-right_judged d verdicts (Err refusal.Memory) h k = tt
-right_judged d verdicts (Err other) h k = (verdicts, h, k)
 
 -- verdicts that are handed on are the derivation's, and none is bad
 pub record AreRightOf (d : Derivation) (verdicts : Verdicts) : Type 0 where

@@ -1,12 +1,10 @@
 -- A command has one outcome on its files.
-use Rattle.std.proofs.Common.{◌≡◌, ℕ, ◌-◌, List, Ok, Err, None, Some, refl, sym, ◌∙◌, ap, arith}
+use Rattle.std.proofs.Common.{◌≡◌, ℕ, List, Ok, Err, None, Some, sym, ◌∙◌, ap, arith}
 use Rattle.std.specs.declared.option.Option.{Option}
 use Rattle.std.specs.declared.result.Result.{Result}
-use Rattle.derivation_graph.specs.Graphs.{HasNoCycle, IsGraphAnswer}
-use Rattle.derivation_graph.specs.declared.Graph.{Graph}
+use Rattle.derivation_graph.specs.Graphs.{IsGraphAnswer}
 use Rattle.derivation_graph.specs.declared.GraphFault.TheVariants as graph_fault
 use Rattle.dk_syntax.specs.declared.Problem.{Problem}
-use Rattle.flat_steps.specs.declared.PlanFault.TheVariants as plan_fault
 use Rattle.tptp_text.specs.Text.{IsReadAnswer}
 use Rattle.tptp_text.specs.declared.TptpFault.TheVariants as text_fault
 use Rattle.tstp_trace.specs.Problems.{IsProblemAnswer}
@@ -16,31 +14,28 @@ use Rattle.tstp_trace.specs.declared.Trace.{Trace}
 use Rattle.tstp_trace.specs.declared.TraceFault.TheVariants as trace_fault
 use Rattle.dk_cli.specs.Checking.{IsCheckedIn}
 use Rattle.words.specs.Commands.{Names}
-use Rattle.dk_cli.specs.Commands.{Command, check, convert, extract, help, steps}
-use Rattle.dk_cli.specs.Conversion.{ArePlanned, IsBoundedDeveloped, IsBuilt, IsDeveloped, IsFlatDeveloped, IsPlanIn, IsRightDeveloped, IsRootIn, IsWritten, barred, formulas_of, plan_refusal, root_told}
+use Rattle.dk_cli.specs.Commands.{Command, check, convert, expansion, extract, help, steps}
+use Rattle.dk_cli.specs.Conversion.{IsDeveloped}
 use Rattle.dk_cli.specs.Derivations.{IsDerivationAt, IsDerivationIn, IsDerivedBy, IsFile, IsGraphIn, IsProblemIn, IsText, IsTraceIn, derivation, graph_refusal, problem_refusal, text_refusal, trace_refusal}
-use Rattle.dk_cli.specs.Judging.{IsJudged}
 use Rattle.dk_cli.specs.Outcome.{IsGiven, IsOutcome}
+use Rattle.dk_cli.specs.Expansion.{IsExpanded}
 use Rattle.dk_cli.specs.Extraction.{IsExtracted}
 use Rattle.dk_cli.specs.StepReport.{IsReported}
 use Rattle.dk_cli.specs.Stages.{Follows, IsToldBy}
-use Rattle.dk_cli.specs.Weight.{IsWeighed}
-use Rattle.dk_cli.specs.declared.derivation.Derivation.{Derivation}
 use Rattle.dk_cli.specs.declared.refusal.File.{File}
 use Rattle.dk_cli.specs.declared.refusal.File.TheVariants as file
 use Rattle.dk_cli.specs.declared.refusal.Refusal.{Refusal}
 use Rattle.dk_cli.specs.declared.refusal.Refusal.TheVariants as refusal
 use Rattle.step_check.specs.Steps.{nodes_of}
-use Rattle.step_check.specs.declared.verdict.Verdicts.{Verdicts}
 use Rattle.dk_cli.proofs.CheckLaws.{one_checked_in}
-use Rattle.dk_cli.proofs.JudgingLaws.{one_judged, one_reported}
-use Rattle.dk_cli.proofs.ReadDerivations.{read_acyclic}
+use Rattle.dk_cli.proofs.ConversionLaws.{one_developed}
+use Rattle.dk_cli.proofs.JudgingLaws.{one_reported}
+use Rattle.dk_cli.proofs.OneExpansion.{one_expanded}
+use Rattle.dk_cli.proofs.ReadDerivations.{read_acyclic, read_formed, read_symbols}
+use Rattle.plan_symbols.proofs.NoOthers.{roots_are_well_formed}
 use Rattle.dk_cli.proofs.StageLaws.{IsOne, one_of_found, one_of_two, one_told}
-use Rattle.dk_cli.proofs.WeightLaws.{one_weighed}
-use Rattle.flat_steps.proofs.PlanLaws.{one_answer}
 use Rattle.tptp_text.proofs.TextLaws.{one_reading}
-use Rattle.flat_steps.specs.Verdicts.{places_of}
-use Rattle.derivation_graph.proofs.AnswerLaws.{one_graph, one_root}
+use Rattle.derivation_graph.proofs.AnswerLaws.{one_graph}
 use Rattle.tstp_trace.proofs.AnswerLaws.{one_problem, one_trace}
 
 -- ---- each stage
@@ -85,54 +80,19 @@ one_derivation names files =
     one_of_two (IsFile file.Problem (files names.problem)) (λ first. Follows (IsFile file.Trace (files names.trace)) (IsDerivationIn first)) (one_file file.Problem (files names.problem))
     (λ first. one_of_two (IsFile file.Trace (files names.trace)) (IsDerivationIn first) (one_file file.Trace (files names.trace)) (one_derivation_in first))
 
-module _ (problem : Problem) (trace : Trace) where
-  one_root_in : IsOne refusal.Memory (IsRootIn problem trace)
-  one_root_in one other (found, h, e) (another, k, d) not_one not_other =
-      e ∙ ap root_told (one_root (formulas_of trace) (barred problem trace) found another h k) ∙ sym d
-
-  one_built : IsOne refusal.Memory (IsBuilt problem trace)
-  one_built (Ok one) (Ok other) h k not_one not_other = refl
-  one_built (Ok one) (Err (refusal.Unbuilt file.Problem)) h k not_one not_other = absurd (k h.0)
-  one_built (Ok one) (Err (refusal.Unbuilt file.Trace)) h k not_one not_other = absurd (k.1 h.1)
-  one_built (Ok one) (Err why) h k not_one not_other = absurd k
-  one_built (Err (refusal.Unbuilt file.Problem)) (Ok other) h k not_one not_other = absurd (h k.0)
-  one_built (Err (refusal.Unbuilt file.Problem)) (Err (refusal.Unbuilt file.Problem)) h k not_one not_other = refl
-  one_built (Err (refusal.Unbuilt file.Problem)) (Err (refusal.Unbuilt file.Trace)) h k not_one not_other = absurd (h k.0)
-  one_built (Err (refusal.Unbuilt file.Problem)) (Err why) h k not_one not_other = absurd k
-  one_built (Err (refusal.Unbuilt file.Trace)) (Ok other) h k not_one not_other = absurd (h.1 k.1)
-  one_built (Err (refusal.Unbuilt file.Trace)) (Err (refusal.Unbuilt file.Problem)) h k not_one not_other = absurd (k h.0)
-  one_built (Err (refusal.Unbuilt file.Trace)) (Err (refusal.Unbuilt file.Trace)) h k not_one not_other = refl
-  one_built (Err (refusal.Unbuilt file.Trace)) (Err why) h k not_one not_other = absurd k
-  one_built (Err why) other h k not_one not_other = absurd h
-
-  one_plan_in : (graph : Graph) (root : ℕ) → IsOne refusal.Memory (IsPlanIn problem trace graph root)
-  one_plan_in graph root = one_told plan_refusal plan_fault.Memory (λ fault e. ap plan_refusal e) (ArePlanned problem trace graph root) (one_answer problem.hyps trace.steps (places_of graph.parents) (root - 1))
-
-  one_flat : (graph : Graph) (root : ℕ) → IsOne refusal.Memory (IsFlatDeveloped problem trace graph root)
-  one_flat graph root =
-      one_of_two (IsBuilt problem trace) (λ nothing. Follows (IsPlanIn problem trace graph root) (IsWritten problem)) one_built
-      (λ nothing. one_of_two (IsPlanIn problem trace graph root) (IsWritten problem) (one_plan_in graph root) (λ instances one other h k not_one not_other. h.1 ∙ sym k.1))
-
-module _ (limit : ℕ) (d : Derivation) (acyclic : HasNoCycle d.graph.parents) where
-  one_bounded : (root : ℕ) (verdicts : Verdicts) → IsJudged d (Ok verdicts) → IsOne refusal.Memory (IsBoundedDeveloped d limit root verdicts)
-  one_bounded root verdicts judged =
-      one_of_two (IsWeighed d limit root verdicts) (λ nothing. IsFlatDeveloped d.problem d.trace d.graph root) (one_weighed d acyclic limit root verdicts judged)
-      (λ nothing. one_flat d.problem d.trace d.graph root)
-
-  one_right_developed : (root : ℕ) → IsOne refusal.Memory (IsRightDeveloped d limit root)
-  one_right_developed root = one_of_found (IsJudged d) (IsBoundedDeveloped d limit root) (one_judged d) (one_bounded root)
-
-  one_developed : IsOne refusal.Memory (IsDeveloped limit d)
-  one_developed = one_of_two (IsRootIn d.problem d.trace) (IsRightDeveloped d limit) (one_root_in d.problem d.trace) one_right_developed
-
 -- ---- the whole
 
 one_given : (command : Command) (files : List ℕ → Option (List ℕ)) → IsOne refusal.Memory (IsGiven command files)
 one_given (convert names limit) files =
     one_of_found (IsDerivationAt names files) (IsDeveloped limit) (one_derivation names files)
-    (λ d read. one_developed limit d (read_acyclic (files names.problem) (files names.trace) d read))
+    (λ d read. one_developed roots_are_well_formed limit d (read_acyclic (files names.problem) (files names.trace) d read)
+    (read_symbols (files names.problem) (files names.trace) d read) (read_formed (files names.problem) (files names.trace) d read))
 one_given (steps names) files = one_of_two (IsDerivationAt names files) IsReported (one_derivation names files) one_reported
 one_given (extract names) files = one_of_two (IsDerivationAt names files) IsExtracted (one_derivation names files) (λ d one other h k not_one not_other. h ∙ sym k)
+one_given (expansion names limit) files =
+    one_of_found (IsDerivationAt names files) (IsExpanded limit) (one_derivation names files)
+    (λ d read. one_expanded roots_are_well_formed limit d (read_acyclic (files names.problem) (files names.trace) d read)
+    (read_symbols (files names.problem) (files names.trace) d read) (read_formed (files names.problem) (files names.trace) d read))
 one_given (check name) files = one_of_two (IsFile file.Development (files name)) IsCheckedIn (one_file file.Development (files name)) one_checked_in
 one_given help files = λ one other h k not_one not_other. h ∙ sym k
 

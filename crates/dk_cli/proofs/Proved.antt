@@ -1,122 +1,84 @@
 -- What is written is a proof of the problem.
-use Rattle.std.proofs.Common.{◌≡◌, ℕ, ◌-◌, List, slice_get, arith, Ok, Err, None, Some, inl, inr, refl, sym, ◌∙◌, ap, subst}
+use Rattle.std.proofs.Common.{◌≡◌, ℕ, List, [], Ok, Err, None, Some, inl, inr, sym, ◌∙◌, subst}
 use Rattle.std.specs.declared.option.Option.{Option}
 use Rattle.std.specs.declared.result.Result.{Result}
 use Rattle.std.specs.Io.KnownBytes.{Appends}
+use Rattle.assemble.proofs.GoalViews.{goal_sorted, view_closed_goal}
+use Rattle.assemble.proofs.SignatureViews.{view_signature}
+use Rattle.assemble.specs.Problem.{problem_signature}
+use Rattle.development.specs.Development.{IsDevelopment}
 use Rattle.dk_io.specs.Outside.{Told}
-use Rattle.dk_syntax.specs.Problems.{HasItsSymbols}
-use Rattle.dk_syntax.specs.declared.Formula.TheVariants.{False}
 use Rattle.dk_syntax.specs.declared.Problem.{Problem}
-use Rattle.derivation_graph.proofs.GraphLaws.{rows_stand}
-use Rattle.derivation_graph.proofs.OrderExists.{order_exists}
-use Rattle.derivation_graph.specs.Graphs.{HasStepsForParents, IsGraphAnswer}
-use Rattle.derivation_graph.specs.declared.Graph.{Graph}
-use Rattle.flat_development.specs.Development.{body_of, development_of}
-use Rattle.flat_form.specs.Flat.{IsFlatProblem}
-use Rattle.flat_steps.specs.declared.Instance.{Instance}
-use Rattle.flat_typing.proofs.BodyViews.{view_goal_sorted}
-use Rattle.flat_typing.proofs.PlanTyping.{goal_closed, plan_closed, plan_typed}
-use Rattle.flat_typing.specs.PlanTypes.{IsPlanned}
+use Rattle.lp_term.proofs.ScopeLaws.{typed_below, typed_declared}
+use Rattle.lp_term.specs.LambdaPi.{Term}
+use Rattle.lp_term.specs.Problems.{goal_type_of}
+use Rattle.lp_term.specs.Typing.{Declaration, HasType}
+use Rattle.lp_term.specs.View.{term_of}
+use Rattle.lp_term.specs.declared.Dev.{Dev}
 use Rattle.lp_text.specs.Print.{text_of}
-use Rattle.tstp_trace.specs.Problems.{IsProblemAnswer}
-use Rattle.tstp_trace.specs.declared.Step.{Step}
+use Rattle.plan.specs.declared.plan.Plan.{Plan}
+use Rattle.plan_typing.specs.Laws.{IsProperPlan, PlanBodyIsTyped, plan_body}
 use Rattle.tstp_trace.specs.declared.Trace.{Trace}
 use Rattle.dk_cli.specs.Answer.{Answers, AnswersCommand, IsTold}
-use Rattle.step_check.specs.Steps.{nodes_of}
 use Rattle.words.specs.Commands.{Names}
 use Rattle.dk_cli.specs.Commands.{Command, convert}
 use Rattle.dk_cli.specs.Delivery.{Change, Delivers}
-use Rattle.dk_cli.specs.Conversion.{ArePlanned, IsBoundedDeveloped, IsBuilt, IsDeveloped, IsFlatDeveloped, IsPlanIn, IsPrinted, IsRightDeveloped, IsRootIn, IsWritten, formulas_of, plan_refusal}
-use Rattle.dk_cli.specs.Derivations.{IsDerivationOf, IsGraphIn, IsProblemIn, IsText, graph_refusal, problem_refusal}
-use Rattle.dk_cli.specs.Judging.{IsJudged}
+use Rattle.dk_cli.specs.Conversion.{IsDeveloped, IsPrinted, IsWritten}
+use Rattle.dk_cli.specs.Derivations.{IsDerivationOf, IsProblemIn}
 use Rattle.dk_cli.specs.Outcome.{IsOutcome}
-use Rattle.dk_cli.specs.Proof.{IsProofOf, IsProofText, IsReadAlone, WritesProof}
-use Rattle.dk_cli.specs.Stages.{Follows, IsToldBy}
-use Rattle.dk_cli.specs.Weight.{IsWeighed}
+use Rattle.dk_cli.specs.Planning.{IsPlanOf}
+use Rattle.dk_cli.specs.Proof.{IsProofOf, IsProofText, IsReadAlone, WritesProof, signature_for}
+use Rattle.dk_cli.specs.Stages.{Follows}
 use Rattle.dk_cli.specs.declared.derivation.Derivation.{Derivation}
-use Rattle.dk_cli.specs.declared.refusal.File.TheVariants as file
 use Rattle.dk_cli.specs.declared.refusal.Refusal.{Refusal}
 use Rattle.dk_cli.specs.declared.refusal.Status.{Status}
 use Rattle.dk_cli.specs.declared.refusal.Status.TheVariants as status
 use Rattle.dk_cli.proofs.Carried.{refusal_not_done}
+use Rattle.dk_cli.proofs.PlanBody.{plan_body_is_typed}
+use Rattle.dk_cli.proofs.PlanningLaws.{plan_found}
+use Rattle.dk_cli.proofs.ProperPlans.{proper_plan}
 use Rattle.dk_cli.proofs.ReadBack.{read_alone}
-use Rattle.dk_cli.proofs.ReadDerivations.{derivation_read}
-use Rattle.dk_cli.proofs.StageLaws.{follows_found, found_same, told_found}
+use Rattle.dk_cli.proofs.ReadDerivations.{IsRead, derivation_read}
+use Rattle.dk_cli.proofs.StageLaws.{follows_found, found_same}
 
--- a problem that was read has its symbols
-problem_has_symbols : (bytes : List ℕ) (problem : Problem) → IsProblemIn bytes (Ok problem) → HasItsSymbols problem
-problem_has_symbols bytes problem h =
-    let read = follows_found (IsText file.Problem bytes) (λ items. IsToldBy problem_refusal (IsProblemAnswer items)) problem h in
-    let is : IsProblemAnswer read.0 (Ok problem) = told_found problem_refusal (IsProblemAnswer read.0) problem read.2 in
-    is.symbols
+-- the development of a proper plan is a proof
+module _ (typing : PlanBodyIsTyped) (problem : Problem) (trace : Trace) (limit : ℕ) (plan : Plan) (proper : IsProperPlan problem trace limit plan) where
+  module _ (development : Dev) (is : IsDevelopment problem trace plan development) where
+    body_typed : HasType (signature_for problem) [] (term_of is.body) (term_of (goal_type_of problem))
+    body_typed =
+        let Here : List Declaration → Type 0 = λ signature. HasType signature [] (term_of is.body) (term_of (goal_type_of problem)) in
+        let WithBody : Term → Type 0 = λ body. HasType (problem_signature problem.symbols) [] body (term_of (goal_type_of problem)) in
+        let WithType : Term → Type 0 = λ goal. HasType (problem_signature problem.symbols) [] (plan_body problem trace plan) goal in
+        subst Here (sym (view_signature problem.symbols)) (subst WithBody (sym is.is) (subst WithType (sym (view_closed_goal problem proper.proper.closed)) (typing problem trace limit plan proper)))
 
--- the step at the root's place has the formula `$false`
-root_is_false : (problem : Problem) (trace : Trace) (root : ℕ) → IsRootIn problem trace (Ok root) → slice_get (formulas_of trace) (root - 1) ≡ Some False
-root_is_false problem trace root (None, h, e) = absurd cc
-root_is_false problem trace root (Some found, h, e) =
-    let same : root ≡ found = found_same {F = Refusal} root found e in
-    let place : root - 1 ≡ h.0 = omega (arith, same, h.1) in
-    ap (slice_get (formulas_of trace)) place ∙ h.2.0
+    development_is_proof : IsProofOf problem development
+    development_is_proof =
+        let sorted = goal_sorted problem proper.proper in record {
+          body = is.body;
+          commands = is.commands;
+          sorted = sorted;
+          typed = body_typed;
+          closed = typed_below body_typed;
+          type_declared = typed_declared sorted;
+          body_declared = typed_declared body_typed;
+        }
 
--- what the typing of a plan rests on
-planned_from : (problem : Problem) (trace : Trace) (graph : Graph) (root : ℕ) (instances : List Instance) → HasItsSymbols problem → IsFlatProblem problem
-    → IsGraphAnswer (nodes_of trace) (Ok graph) → IsRootIn problem trace (Ok root) → ArePlanned problem trace graph root (Ok instances)
-    → IsPlanned problem trace.steps graph.parents (root - 1) instances
-planned_from problem trace graph root instances symbols flat derived rooted plans =
-    let stand : HasStepsForParents graph.parents = subst HasStepsForParents (sym derived.0.1) (rows_stand (nodes_of trace) derived.0.0) in
-    record {
-      flat = flat;
-      symbols = symbols;
-      stands = stand;
-      order = order_exists graph.parents derived.1 stand;
-      falsity = root_is_false problem trace root rooted;
-      plan = plans;
-    }
-
--- the development of a plan is a proof
-plan_is_proof : (problem : Problem) (steps : List Step) (parents : List (List ℕ)) (root : ℕ) (instances : List Instance) → IsPlanned problem steps parents root instances
-    → IsProofOf problem (development_of problem instances)
-plan_is_proof problem steps parents root instances planned =
-    let closed = plan_closed problem steps parents root instances planned in
-    let type_closed = goal_closed problem planned.flat planned.symbols in record {
-      body = body_of problem.hyps instances;
-      commands = refl;
-      sorted = view_goal_sorted problem planned.flat planned.symbols;
-      typed = plan_typed problem steps parents root instances planned;
-      closed = closed.0;
-      type_declared = type_closed.1;
-      body_declared = closed.1;
-    }
-
--- the text of the development of a plan
-plan_text : (problem : Problem) (steps : List Step) (parents : List (List ℕ)) (root : ℕ) (instances : List Instance) (text : List ℕ)
-    → IsPlanned problem steps parents root instances → IsPrinted problem (development_of problem instances) → text ≡ text_of (development_of problem instances)
-    → IsProofText problem text
-plan_text problem steps parents root instances text planned printed same =
-    let development = development_of problem instances in
-    let proof = plan_is_proof problem steps parents root instances planned in record {
+    proof_text_of : (text : List ℕ) → IsPrinted problem development → text ≡ text_of development → IsProofText problem text
+    proof_text_of text printed same = record {
       development = development;
-      is_read = subst (λ bytes. IsReadAlone bytes development) (sym same) (read_alone problem development proof printed);
+      is_read = subst (λ bytes. IsReadAlone bytes development) (sym same) (read_alone problem development development_is_proof printed);
       canonical = same;
-      is_proof = proof;
+      is_proof = development_is_proof;
     }
 
 -- a text that is developed is that of a proof
-proved_by : (limit : ℕ) (d : Derivation) (text : List ℕ) → HasItsSymbols d.problem → IsGraphIn d.trace (Ok d.graph) → IsDeveloped limit d (Ok text) → IsProofText d.problem text
-proved_by limit d text symbols graphed h =
-    let problem = d.problem in
-    let trace = d.trace in
-    let graph = d.graph in
-    let rooted = follows_found (IsRootIn problem trace) (IsRightDeveloped d limit) text h in
-    let root = rooted.0 in
-    let right = follows_found (IsJudged d) (IsBoundedDeveloped d limit root) text rooted.2 in
-    let bounded = follows_found (IsWeighed d limit root right.0) (λ nothing. IsFlatDeveloped problem trace graph root) text right.2 in
-    let built = follows_found (IsBuilt problem trace) (λ nothing. Follows (IsPlanIn problem trace graph root) (IsWritten problem)) text bounded.2 in
-    let planned = follows_found (IsPlanIn problem trace graph root) (IsWritten problem) text built.2 in
-    let derived = told_found graph_refusal (IsGraphAnswer (nodes_of trace)) graph graphed in
-    let plans = told_found plan_refusal (ArePlanned problem trace graph root) planned.0 planned.1 in
-    plan_text problem trace.steps graph.parents (root - 1) planned.0 text (planned_from problem trace graph root planned.0 symbols built.1.0 derived rooted.1 plans)
-    planned.2.0 (found_same {F = Refusal} text (text_of (development_of problem planned.0)) planned.2.1)
+pub proved_by : (found other : Option (List ℕ)) (limit : ℕ) (d : Derivation) (text : List ℕ) → IsRead found other d → IsDeveloped limit d (Ok text) → IsProofText d.problem text
+proved_by found other limit d text read h =
+    let planned = follows_found (IsPlanOf limit d) (IsWritten d) text h in
+    let plan = planned.0 in
+    let proper = proper_plan found other d read limit plan (plan_found limit d plan planned.1) in
+    let development = planned.2.0 in
+    proof_text_of plan_body_is_typed d.problem d.trace limit plan proper development planned.2.1 text planned.2.2 (found_same {F = Refusal} text (text_of development) planned.2.3)
 
 -- a text is that of a proof of the problem that was read
 record IsReadProof (found : Option (List ℕ)) (text : List ℕ) : Type 0 where
@@ -135,7 +97,7 @@ proof_text limit found other text h =
       is = read.is;
       problem = first.0.problem;
       spelled = read.spelled;
-      proof = proved_by limit first.0 text (problem_has_symbols read.bytes first.0.problem read.spelled) read.graphed first.2;
+      proof = proved_by found other limit first.0 text read first.2;
     }
 
 -- a text that was written whole

@@ -60,7 +60,7 @@ constants_printable (symbol ∷ symbols) (name, names) =
 
 -- ---- what is declared
 
-either : {rest : List Declaration} {first : Declaration} {name : List ℕ} {of : Term} → Declares (first ∷ rest) name of → (name ≡ first.name) ⊎ Declares rest name of
+pub either : {rest : List Declaration} {first : Declaration} {name : List ℕ} {of : Term} → Declares (first ∷ rest) name of → (name ≡ first.name) ⊎ Declares rest name of
 either (declared_here rest first) = inl refl
 either (declared_later first h) = inr h
 

@@ -1,46 +1,109 @@
 -- What a derivation holds that was read from two files.
-use Rattle.std.proofs.Common.{◌≡◌, ℕ, List, Ok, None, Some, sym, ap, subst}
+use Rattle.std.proofs.Common.{◌≡◌, ℕ, zero, suc, ◌<◌, List, length, get_or, Ok, None, Some, sym, ap, subst}
+use Rattle.std.proofs.lemmas.List.Elements.{All-get_or}
+use Rattle.std.proofs.lemmas.Option.{get_or_from_slice_get, slice_get_within}
+use Rattle.std.specs.Prelude.{All}
 use Rattle.std.specs.declared.option.Option.{Option}
 use Rattle.derivation_graph.specs.Graphs.{HasNoCycle}
 use Rattle.derivation_graph.specs.declared.Graph.{Graph}
+use Rattle.dk_syntax.specs.Problems.{HasItsSymbols}
 use Rattle.dk_syntax.specs.declared.Problem.{Problem}
+use Rattle.plan.specs.Laws.{AreWellFormed}
+use Rattle.tptp_text.proofs.TextLaws.{proper_items}
+use Rattle.tptp_text.specs.ProperItems.{IsProper}
+use Rattle.tptp_text.specs.Text.{IsReadAnswer}
+use Rattle.tptp_text.specs.declared.Item.{Item}
+use Rattle.tstp_trace.proofs.KeptLaws.{distinct_problem}
+use Rattle.tstp_trace.proofs.ProperLaws.{proper_problem, proper_trace}
+use Rattle.tstp_trace.specs.Names.{AreDistinct}
+use Rattle.tstp_trace.specs.Problems.{HasProperFormulas, IsProblemAnswer, IsProblemOf, names_of}
+use Rattle.tstp_trace.specs.Traces.{HasProperSteps, IsTraceAnswer}
+use Rattle.tstp_trace.specs.declared.Step.{Step}
 use Rattle.tstp_trace.specs.declared.Trace.{Trace}
-use Rattle.dk_cli.specs.Derivations.{IsDerivationIn, IsDerivationOf, IsDerivedBy, IsFile, IsGraphIn, IsProblemIn, IsTraceIn, derivation}
-use Rattle.dk_cli.specs.Stages.{Follows}
+use Rattle.dk_cli.specs.Derivations.{IsDerivationIn, IsDerivationOf, IsDerivedBy, IsFile, IsGraphIn, IsProblemIn, IsText, IsTraceIn, derivation, problem_refusal, text_refusal, trace_refusal}
+use Rattle.dk_cli.specs.Stages.{Follows, IsToldBy}
 use Rattle.dk_cli.specs.declared.derivation.Derivation.{Derivation}
 use Rattle.dk_cli.specs.declared.refusal.File.{File}
 use Rattle.dk_cli.specs.declared.refusal.File.TheVariants as file
 use Rattle.dk_cli.specs.declared.refusal.Refusal.{Refusal}
 use Rattle.dk_cli.proofs.Derived.{graph_acyclic, graph_given}
-use Rattle.dk_cli.proofs.StageLaws.{follows_found, found_same}
+use Rattle.dk_cli.proofs.StageLaws.{follows_found, found_same, told_found}
 
 -- a file whose bytes were found
 file_found : (which : File) (found : Option (List ℕ)) (bytes : List ℕ) → IsFile which found (Ok bytes) → found ≡ Some bytes
 file_found which None bytes h = absurd cc
 file_found which (Some others) bytes h = ap Some (sym h.0)
 
--- what a derivation holds comes from the problem's bytes and has a graph
-pub record IsRead (found : Option (List ℕ)) (d : Derivation) : Type 0 where
+-- what a derivation holds comes from the bytes of the two files and has a graph
+pub record IsRead (found other : Option (List ℕ)) (d : Derivation) : Type 0 where
   pub bytes : List ℕ
   pub is : found ≡ Some bytes
   pub spelled : IsProblemIn bytes (Ok d.problem)
+  pub others : List ℕ
+  pub other_is : other ≡ Some others
+  pub traced : IsTraceIn others (Ok d.trace)
   pub graphed : IsGraphIn d.trace (Ok d.graph)
 
-read_same : (found : Option (List ℕ)) (d : Derivation) (bytes : List ℕ) (problem : Problem) (trace : Trace) (graph : Graph) → found ≡ Some bytes
-    → IsProblemIn bytes (Ok problem) → IsGraphIn trace (Ok graph) → d ≡ derivation problem trace graph → IsRead found d
-read_same found d bytes problem trace graph is spelled graphed same =
-    subst (IsRead found) (sym same) record { bytes = bytes; is = is; spelled = spelled; graphed = graphed }
+read_same : (found other : Option (List ℕ)) (d : Derivation) (bytes others : List ℕ) (problem : Problem) (trace : Trace) (graph : Graph) → found ≡ Some bytes → other ≡ Some others
+    → IsProblemIn bytes (Ok problem) → IsTraceIn others (Ok trace) → IsGraphIn trace (Ok graph) → d ≡ derivation problem trace graph → IsRead found other d
+read_same found other d bytes others problem trace graph is other_is spelled traced graphed same =
+    subst (IsRead found other) (sym same) record { bytes = bytes; is = is; spelled = spelled; others = others; other_is = other_is; traced = traced; graphed = graphed }
 
-pub derivation_read : (found other : Option (List ℕ)) (d : Derivation) → IsDerivationOf found other (Ok d) → IsRead found d
+pub derivation_read : (found other : Option (List ℕ)) (d : Derivation) → IsDerivationOf found other (Ok d) → IsRead found other d
 derivation_read found other d h =
     let first = follows_found (IsFile file.Problem found) (λ bytes. Follows (IsFile file.Trace other) (IsDerivationIn bytes)) d h in
     let second = follows_found (IsFile file.Trace other) (IsDerivationIn first.0) d first.2 in
     let third = follows_found (IsProblemIn first.0) (λ problem. Follows (IsTraceIn second.0) (IsDerivedBy problem)) d second.2 in
     let fourth = follows_found (IsTraceIn second.0) (IsDerivedBy third.0) d third.2 in
     let fifth = follows_found (IsGraphIn fourth.0) (λ graph end. end ≡ Ok (derivation third.0 fourth.0 graph)) d fourth.2 in
-    read_same found d first.0 third.0 fourth.0 fifth.0 (file_found file.Problem found first.0 first.1) third.1 fifth.1
-    (found_same {F = Refusal} d (derivation third.0 fourth.0 fifth.0) fifth.2)
+    read_same found other d first.0 second.0 third.0 fourth.0 fifth.0 (file_found file.Problem found first.0 first.1) (file_found file.Trace other second.0 second.1)
+    third.1 fourth.1 fifth.1 (found_same {F = Refusal} d (derivation third.0 fourth.0 fifth.0) fifth.2)
 
 -- no step of it is on a cycle
 pub read_acyclic : (found other : Option (List ℕ)) (d : Derivation) → IsDerivationOf found other (Ok d) → HasNoCycle d.graph.parents
 read_acyclic found other d h = let read = derivation_read found other d h in graph_acyclic d.trace d.graph (graph_given d.trace d.graph read.graphed)
+
+-- ---- what holds of what was read
+
+module _ (bytes : List ℕ) (problem : Problem) (h : IsProblemIn bytes (Ok problem)) where
+  -- its items
+  items_of_problem : (items : List Item) × IsReadAnswer bytes (Ok items) × IsProblemOf items problem
+  items_of_problem =
+      let read = follows_found (IsText file.Problem bytes) (λ items. IsToldBy problem_refusal (IsProblemAnswer items)) problem h in
+      (read.0, told_found (text_refusal file.Problem) (IsReadAnswer bytes) read.0 read.1, told_found problem_refusal (IsProblemAnswer read.0) problem read.2)
+
+  -- a problem that was read has its symbols
+  pub problem_has_symbols : HasItsSymbols problem
+  problem_has_symbols = items_of_problem.2.symbols
+
+  -- its formulas are proper
+  pub problem_is_proper : HasProperFormulas problem
+  problem_is_proper = let read = items_of_problem in proper_problem read.0 problem read.2 (proper_items bytes (Ok read.0) read.1)
+
+  -- and its names are distinct
+  pub problem_has_names : AreDistinct (names_of problem)
+  problem_has_names = let read = items_of_problem in distinct_problem read.0 problem read.2
+
+-- a trace that was read has proper steps
+trace_is_proper : (bytes : List ℕ) (trace : Trace) → IsTraceIn bytes (Ok trace) → HasProperSteps trace
+trace_is_proper bytes trace h =
+    let read = follows_found (IsText file.Trace bytes) (λ items. IsToldBy trace_refusal (IsTraceAnswer items)) trace h in
+    let items : IsReadAnswer bytes (Ok read.0) = told_found (text_refusal file.Trace) (IsReadAnswer bytes) read.0 read.1 in
+    let is : IsTraceAnswer read.0 (Ok trace) = told_found trace_refusal (IsTraceAnswer read.0) trace read.2 in
+    proper_trace read.0 trace is (proper_items bytes (Ok read.0) items)
+
+steps_well_formed : (steps : List Step) → All (λ step. IsProper step.formula) steps → AreWellFormed steps
+steps_well_formed steps proper zero step is = absurd cc
+steps_well_formed steps proper (suc place) step is =
+    let below : place < length steps = slice_get_within steps place step is in
+    let there : get_or steps place step ≡ step = get_or_from_slice_get steps place step step is in
+    (subst (λ (s : Step). IsProper s.formula) there (All-get_or (λ (s : Step). IsProper s.formula) steps place step below proper)).well_formed
+
+pub read_symbols : (found other : Option (List ℕ)) (d : Derivation) → IsDerivationOf found other (Ok d) → HasItsSymbols d.problem
+read_symbols found other d h = let read = derivation_read found other d h in problem_has_symbols read.bytes d.problem read.spelled
+
+pub steps_are_formed : (bytes : List ℕ) (trace : Trace) → IsTraceIn bytes (Ok trace) → AreWellFormed trace.steps
+steps_are_formed bytes trace h = steps_well_formed trace.steps (trace_is_proper bytes trace h)
+
+pub read_formed : (found other : Option (List ℕ)) (d : Derivation) → IsDerivationOf found other (Ok d) → AreWellFormed d.trace.steps
+read_formed found other d h = let read = derivation_read found other d h in steps_are_formed read.others d.trace read.traced

@@ -38,6 +38,17 @@ goes_on First Next first found answer was h k = at_answer answer (subst (Answere
 abbrev pub IsOne : {A F : Type 0} → F → (Result A F → Type 0) → Type 0
 IsOne {A} {F} memory Is = (one other : Result A F) → Is one → Is other → one ≢ Err memory → other ≢ Err memory → one ≡ other
 
+-- both find something, or both refuse the same
+abbrev pub AreSame : {A : Type 0} → Result A Refusal → Result A Refusal → Type 0
+AreSame (Ok x) (Ok y) = Unit {0}
+AreSame (Ok x) (Err why) = ⊥
+AreSame (Err why) (Ok y) = ⊥
+AreSame (Err why) (Err another) = why ≡ another
+
+-- where memory does not lack, a refusal is one
+abbrev pub RefusesOne : {A : Type 0} → (Result A Refusal → Type 0) → Type 0
+RefusesOne {A} Is = (one other : Result A Refusal) → Is one → Is other → one ≢ Err Memory → other ≢ Err Memory → AreSame one other
+
 module _ {A F : Type 0} (tell : F → Refusal) (memory : F) (keeps : (fault : F) → fault ≡ memory → tell fault ≡ Memory) (Is : Result A F → Type 0) where
   -- a call that doesn't lack memory is told so
   definite : (found : Result A F) (answer : Result A Refusal) → answer ≡ told_by tell found → answer ≢ Err Memory → found ≢ Err memory
@@ -78,6 +89,32 @@ module _ {A B : Type 0} (First : Result A Refusal → Type 0) (Next : A → Resu
       let same : first ≡ second =
       first_unique first second h i (first_definite first one k not_one) (first_definite second other j not_other) in
       continued next_unique first one other h k (subst (λ x. Continues Next x other) (sym same) j) not_one not_other
+
+  -- the same where the next stage finds several things, of which each is refused alike
+  refusing_continued : ((x : A) → First (Ok x) → RefusesOne (Next x)) → (first : Result A Refusal) (one other : Result B Refusal) → First first
+      → Continues Next first one → Continues Next first other → one ≢ Err Memory → other ≢ Err Memory → AreSame one other
+  refusing_continued next (Ok x) one other found h k not_one not_other = next x found one other h k not_one not_other
+  refusing_continued next (Err why) one other found h k not_one not_other = subst (AreSame one) (sym k) (subst (λ a. AreSame a (Err why)) (sym h) refl)
+
+  pub refusing_of_found : IsOne Memory First → ((x : A) → First (Ok x) → RefusesOne (Next x)) → RefusesOne (Follows First Next)
+  refusing_of_found first_unique next one other (first, h, k) (second, i, j) not_one not_other =
+      let same : first ≡ second =
+      first_unique first second h i (first_definite first one k not_one) (first_definite second other j not_other) in
+      refusing_continued next first one other h k (subst (λ x. Continues Next x other) (sym same) j) not_one not_other
+
+  any_continued : ((x y : A) → First (Ok x) → First (Ok y) → (one other : Result B Refusal) → Next x one → Next y other → one ≡ other)
+      → (first second : Result A Refusal) (one other : Result B Refusal) → First first → First second → AreSame first second
+      → Continues Next first one → Continues Next second other → one ≡ other
+  any_continued each (Ok x) (Ok y) one other h i same k j = each x y h i one other k j
+  any_continued each (Ok x) (Err why) one other h i same k j = absurd same
+  any_continued each (Err why) (Ok y) one other h i same k j = absurd same
+  any_continued each (Err why) (Err another) one other h i same k j = k ∙ ap Err same ∙ sym j
+
+  -- what the first stage finds may be several things that give the next one's answer alike
+  pub one_of_refusing : RefusesOne First → ((x y : A) → First (Ok x) → First (Ok y) → (one other : Result B Refusal) → Next x one → Next y other → one ≡ other)
+      → IsOne Memory (Follows First Next)
+  one_of_refusing refuses each one other (first, h, k) (second, i, j) not_one not_other =
+      any_continued each first second one other h i (refuses first second h i (first_definite first one k not_one) (first_definite second other j not_other)) k j
 
   pub one_of_two : IsOne Memory First → ((x : A) → IsOne Memory (Next x)) → IsOne Memory (Follows First Next)
   one_of_two first_unique next_unique = one_of_found first_unique (λ x found. next_unique x)

@@ -2,7 +2,6 @@
 use Rattle.std.proofs.Common.{◌≡◌, ℕ, List, Ok, Err, sym, ◌∙◌, ap, subst}
 use Rattle.std.specs.declared.result.Result.{Result}
 use Rattle.derivation_graph.specs.Graphs.{HasNoCycle}
-use Rattle.ground_instances.specs.Verdicts.{AreRightVerdicts}
 use Rattle.ground_instances.specs.declared.instance.Instance.{Instance}
 use Rattle.ground_instances.specs.declared.instance.PullFault.{PullFault}
 use Rattle.ground_instances.specs.declared.instance.PullFault.TheVariants as pull_fault
@@ -18,10 +17,6 @@ use Rattle.dk_cli.specs.declared.refusal.Refusal.TheVariants as refusal
 use Rattle.dk_cli.proofs.DerivationLaws.{IsLater}
 use Rattle.dk_cli.proofs.JudgingLaws.{judged_right}
 use Rattle.dk_cli.proofs.StageLaws.{IsOne, Only}
-
--- instances are pulled back from verdicts that were handed on
-pub right_verdicts : (d : Derivation) (verdicts : Verdicts) → IsJudged d (Ok verdicts) → AreRightVerdicts d.trace d.graph verdicts
-right_verdicts d verdicts judged = let found = judged_right d verdicts judged in (d.problem, found.are, found.right)
 
 module _ (d : Derivation) (acyclic : HasNoCycle d.graph.parents) (limit root : ℕ) (verdicts : Verdicts) (judged : IsJudged d (Ok verdicts)) where
   pub one_weighed : IsOne refusal.Memory (IsWeighed d limit root verdicts)

@@ -73,7 +73,7 @@ command_workers word rest =
     (either_way Fine (bytes_eq word (codes "extract")) (extracting rest) _
     (any_workers (λ (files : Files). words.extract files.names files.workers) (λ files. tt) two)
     (either_way Fine (bytes_eq word (codes "expansion")) (expanding rest) _
-    (any_workers (λ (files : Files). words.expansion files.names files.limit files.workers) (λ files. tt) three)
+    (made_workers (λ files. words.expansion files.names files.limit files.workers) (λ files h. h) three (given_workers (given_of limit_and_workers rest)))
     (either_way Fine (bytes_eq word (codes "check")) (checking rest) _
     (any_workers words.check (λ file. tt) (file_in rest))
     (either_way Fine (bytes_eq word (codes "generate")) (generating rest) _

@@ -9,7 +9,7 @@ use Rattle.words.specs.Reading.{asks_command, command_of}
 use Rattle.words.specs.Views.{words_view}
 use Rattle.words.specs.declared.command.Words.{Words as WordsRead}
 use Rattle.dk_cli.specs.Answer.{Answers, AnswersCommand, IsFixed, Refuses}
-use Rattle.dk_cli.specs.Commands.{Command, asked_of, built, check, convert, extract, steps}
+use Rattle.dk_cli.specs.Commands.{Command, asked_of, built, check, convert, expansion, extract, steps}
 use Rattle.dk_cli.specs.declared.refusal.Refusal.{Refusal}
 use Rattle.dk_cli.specs.declared.refusal.Refusal.TheVariants.{Memory}
 use Rattle.dk_cli.proofs.WordLaws.{help_takes_none}
@@ -41,7 +41,7 @@ wanted_on told None n not_help = (inr tt, refl)
 wanted_on told (Some (words.convert names limit workers)) n not_help = wanted told (convert names limit) n tt
 wanted_on told (Some (words.steps names workers)) n not_help = wanted told (steps names) n tt
 wanted_on told (Some (words.extract names workers)) n not_help = wanted told (extract names) n tt
-wanted_on told (Some (words.expansion names limit workers)) n not_help = (inr tt, refl)
+wanted_on told (Some (words.expansion names limit workers)) n not_help = wanted told (expansion names limit) n tt
 wanted_on told (Some (words.check file)) n not_help = wanted told (check file) n tt
 wanted_on told (Some (words.generate number workers)) n not_help = (inr tt, refl)
 wanted_on told (Some words.help) n not_help = absurd (not_help refl)

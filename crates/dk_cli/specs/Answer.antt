@@ -5,7 +5,7 @@ use Rattle.std.specs.declared.result.Result.{Result}
 use Rattle.dk_io.specs.Causes.{Rose}
 use Rattle.dk_io.specs.Outside.{Told, IsAbsent, Tells}
 use Rattle.words.specs.Usage.{usage_text}
-use Rattle.dk_cli.specs.Commands.{Command, check, convert, extract, files_of, help, steps}
+use Rattle.dk_cli.specs.Commands.{Command, check, convert, expansion, extract, files_of, help, steps}
 use Rattle.dk_cli.specs.Derivations.{byte_limit}
 use Rattle.dk_cli.specs.Outcome.{IsOutcome}
 use Rattle.dk_cli.specs.declared.refusal.Refusal.{Refusal}
@@ -37,7 +37,7 @@ IsTold (Some files) Is answer = Is files answer
 abbrev pub IsToldOutcome : Told → Command → Result (List ℕ) Refusal → Type 0
 IsToldOutcome told command answer = IsTold told (IsOutcome command) answer
 
--- What `convert`, `steps` and `extract` refuse before anything is written: not their words, and nothing that is said of a
+-- What `convert`, `steps`, `extract` and `expansion` refuse before anything is written: not their words, and nothing that is said of a
 -- development.
 abbrev pub IsOfTrace : Refusal → Type 0
 IsOfTrace Words = ⊥
@@ -61,6 +61,7 @@ abbrev pub Refuses : Command → Refusal → Type 0
 Refuses (convert names limit) refusal = IsOfTrace refusal
 Refuses (steps names) refusal = IsOfTrace refusal
 Refuses (extract names) refusal = IsOfTrace refusal
+Refuses (expansion names limit) refusal = IsOfTrace refusal
 Refuses (check name) refusal = IsOfDevelopment refusal
 Refuses help refusal = ⊥
 

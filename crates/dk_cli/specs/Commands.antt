@@ -11,6 +11,7 @@ pub data Command : Type 0 where
   convert : Names → ℕ → Command
   steps : Names → Command
   extract : Names → Command
+  expansion : Names → ℕ → Command
   check : Text → Command
   help : Command
 
@@ -19,7 +20,7 @@ abbrev pub built : Words → Option Command
 built (words.convert names limit workers) = Some (convert names limit)
 built (words.steps names workers) = Some (steps names)
 built (words.extract names workers) = Some (extract names)
-built (words.expansion names limit workers) = None
+built (words.expansion names limit workers) = Some (expansion names limit)
 built (words.check file) = Some (check file)
 built (words.generate number workers) = None
 built words.help = Some help
@@ -36,6 +37,7 @@ abbrev pub files_of : Command → List Text
 files_of (convert names limit) = files_of_names names
 files_of (steps names) = files_of_names names
 files_of (extract names) = files_of_names names
+files_of (expansion names limit) = files_of_names names
 files_of (check file) = file ∷ []
 files_of help = []
 

@@ -1,91 +1,25 @@
 -- What `convert` writes of a derivation: the text of a development, or the first refusal.
-use Rattle.std.specs.Prelude.{◌≡◌, ℕ, ◌-◌, Bool, false, List, All, map, nat_eq, Ok, Err, None, Some}
-use Rattle.std.specs.Cmp.Lexicographic.{pointwise}
-use Rattle.std.specs.declared.option.Option.{Option}
+use Rattle.std.specs.Prelude.{◌≡◌, ℕ, List, All, Ok}
 use Rattle.std.specs.declared.result.Result.{Result}
-use Rattle.dk_syntax.specs.declared.Formula.{Formula}
-use Rattle.dk_syntax.specs.declared.Named.{Named}
+use Rattle.development.specs.Development.{IsDevelopment}
 use Rattle.dk_syntax.specs.declared.Problem.{Problem}
 use Rattle.dk_syntax.specs.declared.SymKey.{SymKey}
-use Rattle.derivation_graph.specs.Roots.{IsRootAnswer}
-use Rattle.derivation_graph.specs.declared.Graph.{Graph}
-use Rattle.flat_development.specs.Development.{development_of}
-use Rattle.flat_form.specs.Flat.{IsFlatProblem, IsFlatTrace}
-use Rattle.flat_steps.specs.Plan.{Plans}
-use Rattle.flat_steps.specs.Verdicts.{places_of}
-use Rattle.flat_steps.specs.declared.Instance.{Instance}
-use Rattle.flat_steps.specs.declared.PlanFault.{PlanFault}
-use Rattle.flat_steps.specs.declared.PlanFault.TheVariants as plan_fault
 use Rattle.lp_term.specs.Identifiers.{identifier_of}
-use Rattle.lp_term.specs.Reserved.{IsFree, IsGrammarName}
+use Rattle.lp_term.specs.Reserved.{IsFree, IsGrammarName, IsOfOne}
 use Rattle.lp_term.specs.declared.Dev.{Dev}
 use Rattle.lp_text.specs.Levels.{commands_over}
 use Rattle.lp_text.specs.Print.{text_of}
-use Rattle.tstp_trace.specs.declared.StepSource.{StepSource}
-use Rattle.tstp_trace.specs.declared.StepSource.TheVariants.{Leaf, Derived}
-use Rattle.tstp_trace.specs.declared.Trace.{Trace}
-use Rattle.step_check.specs.declared.verdict.Verdicts.{Verdicts}
-use Rattle.dk_cli.specs.Judging.{IsJudged}
-use Rattle.dk_cli.specs.Stages.{Follows, IsToldBy}
-use Rattle.dk_cli.specs.Weight.{IsWeighed}
+use Rattle.plan.specs.declared.plan.Plan.{Plan}
+use Rattle.dk_cli.specs.Planning.{IsPlanOf}
+use Rattle.dk_cli.specs.Stages.{Follows}
 use Rattle.dk_cli.specs.declared.derivation.Derivation.{Derivation}
-use Rattle.dk_cli.specs.declared.refusal.File.TheVariants as file
 use Rattle.dk_cli.specs.declared.refusal.Refusal.{Refusal}
-use Rattle.dk_cli.specs.declared.refusal.Refusal.TheVariants as refusal
 
--- ---- root
-
--- whether the conjecture has the name
-abbrev pub is_conjecture : Option Named → List ℕ → Bool
-is_conjecture None name = false
-is_conjecture (Some conjecture) name = pointwise nat_eq conjecture.name name
-
--- whether a step from that source is a leaf that names the conjecture
-abbrev pub names_conjecture : Option Named → StepSource → Bool
-names_conjecture conjecture (Leaf name) = is_conjecture conjecture name
-names_conjecture conjecture (Derived cth esa parents) = false
-
-abbrev pub formulas_of : Trace → List Formula
-formulas_of trace = map (λ step. step.formula) trace.steps
-
--- which steps can't be the root, since they name the conjecture
-abbrev pub barred : Problem → Trace → List Bool
-barred problem trace = map (λ step. names_conjecture problem.conjecture step.source) trace.steps
-
-abbrev pub root_told : Option ℕ → Result ℕ Refusal
-root_told None = Err refusal.NoRefutation
-root_told (Some root) = Ok root
-
--- The root of a trace: its first step with the formula `$false` that doesn't name the conjecture.
-abbrev pub IsRootIn : Problem → Trace → Result ℕ Refusal → Type 0
-IsRootIn problem trace answer = (found : Option ℕ) × IsRootAnswer (formulas_of trace) (barred problem trace) found × (answer ≡ root_told found)
-
--- ---- the flat part, which is built
-
--- Interim: the problem and the trace are flat.
-abbrev pub IsBuilt : Problem → Trace → Result Unit Refusal → Type 0
-IsBuilt problem trace (Ok nothing) = IsFlatProblem problem × IsFlatTrace trace
-IsBuilt problem trace (Err (refusal.Unbuilt file.Problem)) = IsFlatProblem problem → ⊥
-IsBuilt problem trace (Err (refusal.Unbuilt file.Trace)) = IsFlatProblem problem × (IsFlatTrace trace → ⊥)
-IsBuilt problem trace (Err other) = ⊥
-
--- A step that was found right may be none of a flat plan.
-abbrev pub plan_refusal : PlanFault → Refusal
-plan_refusal (plan_fault.Wrong step reason) = refusal.Unbuilt file.Trace
-plan_refusal plan_fault.Memory = refusal.Memory
-
--- The same as an answer of the plan, whose steps have places from 0.
-abbrev pub ArePlanned : Problem → Trace → Graph → ℕ → Result (List Instance) PlanFault → Type 0
-ArePlanned problem trace graph root found = Plans problem.hyps trace.steps (places_of graph.parents) (root - 1) found
-
--- The instances that the root needs, where every step is right.
-abbrev pub IsPlanIn : Problem → Trace → Graph → ℕ → Result (List Instance) Refusal → Type 0
-IsPlanIn problem trace graph root answer = IsToldBy plan_refusal (ArePlanned problem trace graph root) answer
-
--- The symbol's identifier is one of the grammar, and free.
+-- The symbol's identifier is one of the grammar, free, and no other symbol's.
 pub record HasName (symbol : SymKey) : Type 0 where
   pub grammar : IsGrammarName (identifier_of symbol)
   pub free : IsFree (identifier_of symbol)
+  pub of_one : IsOfOne symbol (identifier_of symbol)
 
 -- A development for a problem that can be printed: fewer than 2 ^ 32 binders stand around each place, else memory
 -- lacks, and the symbols have such identifiers, as all have whose names are bytes.
@@ -93,26 +27,10 @@ pub record IsPrinted (problem : Problem) (development : Dev) : Type 0 where
   pub places : commands_over development.commands ≡ 0
   pub names : All HasName problem.symbols
 
--- The text of the development.
-abbrev pub IsWritten : Problem → List Instance → Result (List ℕ) Refusal → Type 0
-IsWritten problem instances answer =
-    IsPrinted problem (development_of problem instances) × (answer ≡ Ok (text_of (development_of problem instances)))
-
--- ---- the whole
-
--- What a problem and a trace with that graph and that root give.
-abbrev pub IsFlatDeveloped : Problem → Trace → Graph → ℕ → Result (List ℕ) Refusal → Type 0
-IsFlatDeveloped problem trace graph root answer =
-    Follows (IsBuilt problem trace) (λ nothing. Follows (IsPlanIn problem trace graph root) (IsWritten problem)) answer
-
--- What a derivation with that root and these verdicts gives: what the root needs is within the limits.
-abbrev pub IsBoundedDeveloped : Derivation → ℕ → ℕ → Verdicts → Result (List ℕ) Refusal → Type 0
-IsBoundedDeveloped d limit root verdicts answer = Follows (IsWeighed d limit root verdicts) (λ nothing. IsFlatDeveloped d.problem d.trace d.graph root) answer
-
--- What a derivation with that root gives: every step is right, also one that the root doesn't need.
-abbrev pub IsRightDeveloped : Derivation → ℕ → ℕ → Result (List ℕ) Refusal → Type 0
-IsRightDeveloped d limit root answer = Follows (IsJudged d) (IsBoundedDeveloped d limit root) answer
+-- The text of the development of the plan.
+abbrev pub IsWritten : Derivation → Plan → Result (List ℕ) Refusal → Type 0
+IsWritten d plan answer = (development : Dev) × IsDevelopment d.problem d.trace plan development × IsPrinted d.problem development × (answer ≡ Ok (text_of development))
 
 -- What a derivation gives, with that limit on the weight.
 abbrev pub IsDeveloped : ℕ → Derivation → Result (List ℕ) Refusal → Type 0
-IsDeveloped limit d answer = Follows (IsRootIn d.problem d.trace) (IsRightDeveloped d limit) answer
+IsDeveloped limit d answer = Follows (IsPlanOf limit d) (IsWritten d) answer

@@ -1,6 +1,5 @@
 -- What `extract` writes of a derivation: each derived step as a problem.
 use Rattle.std.specs.Prelude.{◌≡◌, ℕ, List, Ok, None, Some}
-use Rattle.std.specs.declared.option.Option.{Option}
 use Rattle.std.specs.declared.result.Result.{Result}
 use Rattle.std.specs.Io.KnownBytes.{Appends}
 use Rattle.dk_io.specs.Outside.{Told}

@@ -6,7 +6,7 @@ use Rattle.std.specs.Io.KnownBytes.{Appends}
 use Rattle.dk_io.specs.Causes.{Rose}
 use Rattle.dk_io.specs.Outside.{Told, AppendsFront}
 use Rattle.words.specs.Usage.{usage_text}
-use Rattle.dk_cli.specs.Commands.{Command, check, convert, extract, help, steps}
+use Rattle.dk_cli.specs.Commands.{Command, check, convert, expansion, extract, help, steps}
 use Rattle.dk_cli.specs.Answer.{Answers, IsFixed, IsMemory, IsToldOutcome, LacksFile}
 use Rattle.dk_cli.specs.Delivery.{Change, Delivers, IsCut, IsNoted, IsRefused, IsUntouched, IsWritten}
 use Rattle.dk_cli.specs.declared.refusal.Refusal.{Refusal}
@@ -36,8 +36,9 @@ CanCome (steps names) status.IllTyped = ⊥
 CanCome (steps names) result = Unit {0}
 CanCome (extract names) status.IllTyped = ⊥
 CanCome (extract names) result = Unit {0}
+CanCome (expansion names limit) status.IllTyped = ⊥
+CanCome (expansion names limit) result = Unit {0}
 CanCome (check name) status.Input = ⊥
-CanCome (check name) status.Unbuilt = ⊥
 CanCome (check name) result = Unit {0}
 CanCome help status.Done = Unit {0}
 CanCome help status.WriteFault = Unit {0}

@@ -1,5 +1,5 @@
 -- The verdicts on the steps of a derivation, and the first step that is wrong or over a limit.
-use Rattle.std.specs.Prelude.{◌≡◌, ℕ, ◌-◌, List, Ok, Err, None, Some, slice_get}
+use Rattle.std.specs.Prelude.{◌≡◌, ◌-◌, List, Ok, Err, None, Some, slice_get}
 use Rattle.std.specs.declared.result.Result.{Result}
 use Rattle.step_check.specs.Freshness.{AreVerdicts, IsFirstBad}
 use Rattle.step_check.specs.Steps.{case_of}

@@ -4,10 +4,13 @@ pub mod Commands
 pub mod Conversion
 pub mod Delivery
 pub mod Derivations
+pub mod Expansion
 pub mod Extraction
 pub mod Headline
+pub mod Introduced
 pub mod Judging
 pub mod Outcome
+pub mod Planning
 pub mod Proof
 pub mod Refusals
 pub mod Stages

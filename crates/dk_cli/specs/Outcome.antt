@@ -4,10 +4,11 @@ use Rattle.std.specs.Prelude.{◌≡◌, ◌≢◌, ℕ, List, Ok, Err}
 use Rattle.std.specs.declared.option.Option.{Option}
 use Rattle.std.specs.declared.result.Result.{Result}
 use Rattle.words.specs.Usage.{usage_text}
-use Rattle.dk_cli.specs.Commands.{Command, check, convert, extract, help, steps}
+use Rattle.dk_cli.specs.Commands.{Command, check, convert, expansion, extract, help, steps}
 use Rattle.dk_cli.specs.Checking.{IsCheckedAt}
 use Rattle.dk_cli.specs.Conversion.{IsDeveloped}
 use Rattle.dk_cli.specs.Derivations.{IsDerivationAt}
+use Rattle.dk_cli.specs.Expansion.{IsExpanded}
 use Rattle.dk_cli.specs.Extraction.{IsExtracted}
 use Rattle.dk_cli.specs.Stages.{Follows}
 use Rattle.dk_cli.specs.StepReport.{IsReported}
@@ -19,6 +20,7 @@ abbrev pub IsGiven : Command → (List ℕ → Option (List ℕ)) → Result (Li
 IsGiven (convert names limit) files answer = Follows (IsDerivationAt names files) (IsDeveloped limit) answer
 IsGiven (steps names) files answer = Follows (IsDerivationAt names files) IsReported answer
 IsGiven (extract names) files answer = Follows (IsDerivationAt names files) IsExtracted answer
+IsGiven (expansion names limit) files answer = Follows (IsDerivationAt names files) (IsExpanded limit) answer
 IsGiven (check name) files answer = IsCheckedAt name files answer
 IsGiven help files answer = answer ≡ Ok usage_text
 

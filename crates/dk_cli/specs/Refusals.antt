@@ -16,7 +16,7 @@ use Rattle.dk_cli.specs.declared.refusal.File.TheVariants.{Problem, Trace, Devel
 use Rattle.dk_cli.specs.declared.refusal.ItemFault.{ItemFault}
 use Rattle.dk_cli.specs.declared.refusal.ItemFault.TheVariants as item_fault
 use Rattle.dk_cli.specs.declared.refusal.Refusal.{Refusal}
-use Rattle.dk_cli.specs.declared.refusal.Refusal.TheVariants.{Words, ReadFault, TooLong, NotTptp, TooDeep, TooManyItems, NotLp, NotTyped, Item, Step, NoRefutation, OverWeight, OverWide, Unbuilt, WriteFault, Memory}
+use Rattle.dk_cli.specs.declared.refusal.Refusal.TheVariants.{Words, ReadFault, TooLong, NotTptp, TooDeep, TooManyItems, NotLp, NotTyped, Item, Step, NoRefutation, OverWeight, OverWide, WriteFault, Memory}
 use Rattle.dk_cli.specs.declared.refusal.Status.{Status}
 use Rattle.dk_cli.specs.declared.refusal.Status.TheVariants as status
 use Rattle.dk_cli.specs.declared.refusal.StepFault.{StepFault}
@@ -42,7 +42,6 @@ status_of (Step step fault) = step_status fault
 status_of NoRefutation = status.Input
 status_of (OverWeight limit) = status.Limit
 status_of (OverWide step) = status.Limit
-status_of (Unbuilt file) = status.Unbuilt
 status_of WriteFault = status.WriteFault
 status_of Memory = status.Memory
 
@@ -122,7 +121,6 @@ line_of (Step step fault) = codes "step " ++ decimal step ++ codes ": " ++ step_
 line_of NoRefutation = codes "no refutation"
 line_of (OverWeight limit) = codes "weight over " ++ decimal limit
 line_of (OverWide step) = codes "instance over 1000000: step " ++ decimal step
-line_of (Unbuilt file) = codes "not built: " ++ file_word file
 line_of WriteFault = codes "write fault"
 line_of Memory = codes "out of memory"
 

@@ -1,6 +1,5 @@
 -- What `steps` writes of a derivation: the lines of its verdicts, also where steps are wrong.
 use Rattle.std.specs.Prelude.{◌≡◌, ℕ, List, Ok, None, Some}
-use Rattle.std.specs.declared.option.Option.{Option}
 use Rattle.std.specs.declared.result.Result.{Result}
 use Rattle.std.specs.Io.KnownBytes.{Appends}
 use Rattle.dk_io.specs.Outside.{Told}

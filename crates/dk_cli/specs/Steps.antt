@@ -1,15 +1,15 @@
 -- What the parts of a command answer.
-use Rattle.std.specs.Prelude.{◌≡◌, ℕ, ◌<◌, ◌≤◌, ◌⊎◌, Bool, List, [], ◌∷◌, length, Ok, Err, IfOk, IfErr, map}
+use Rattle.std.specs.Prelude.{◌≡◌, ℕ, ◌<◌, ◌≤◌, ◌⊎◌, List, [], ◌∷◌, length, Ok, Err, IfOk, IfErr}
 use Rattle.std.specs.declared.result.Result.{Result}
 use Rattle.std.specs.declared.vec.Vec.{Vec}
 use Rattle.std.specs.declared.alloc.Global.{Global}
 use Rattle.dk_io.specs.Causes.{Rose}
 use Rattle.dk_io.specs.Outside.{Told, IsAbsent, IsFile as IsFileOf, Tells}
 use Rattle.derivation_graph.specs.Graphs.{IsGraphAnswer}
-use Rattle.flat_form.specs.Flat.{is_false}
 use Rattle.step_check.specs.Steps.{nodes_of}
-use Rattle.tstp_trace.specs.Traces.{HaveFitParents}
-use Rattle.tstp_trace.specs.declared.Trace.{Trace}
+use Rattle.tstp_trace.specs.Names.{AreDistinct}
+use Rattle.tstp_trace.specs.Problems.{HasProperFormulas}
+use Rattle.tstp_trace.specs.Traces.{HaveFitParents, names_of}
 use Rattle.dk_cli.specs.Answer.{IsAnswer, IsOfDevelopment, IsOfTrace, IsTold, LacksOneOf}
 use Rattle.words.specs.Commands.{Names}
 use Rattle.dk_cli.specs.Commands.{files_of_names}
@@ -38,10 +38,6 @@ pub record ReadsFile (told : Told) (name : List ℕ) (file : File) (before now :
   pub absent : IsAbsent told name → result ≡ Err (ReadFault file)
   pub cause : IfErr result (λ refusal. FileCause told name file before now refusal)
 
--- which steps have the formula `$false`
-abbrev pub falsities : Trace → List Bool
-falsities trace = map (λ step. is_false step.formula) trace.steps
-
 -- The answer to the reading of the file of a development.
 abbrev pub AnswersFile : Told → List ℕ → File → ℕ → ℕ → Result (List ℕ) Refusal → Type 0
 AnswersFile told name file before now answer = IsAnswer (LacksOneOf told (name ∷ [])) IsOfDevelopment (IsTold told (λ files. IsFile file (files name))) before now answer
@@ -53,4 +49,6 @@ AnswersDerivation told names before now answer = IsAnswer (LacksOneOf told (file
 -- What holds of a derivation that was read, whether or not its bytes are told.
 pub record IsDerived (d : Derivation) : Type 0 where
   pub graph : IsGraphAnswer (nodes_of d.trace) (Ok d.graph)
+  pub names : AreDistinct (names_of d.trace)
   pub parents : HaveFitParents d.trace.steps
+  pub proper : HasProperFormulas d.problem

@@ -3,7 +3,7 @@ ghost use Rattle.std.specs.Prelude.{◌≡◌, ◌<◌, [], None, true, IfOk, If
 ghost use Rattle.words.specs.Reading.{asks_command};
 ghost use Rattle.words.specs.Views.{texts};
 ghost use Rattle.dk_cli.specs.Answer.{Answers, AnswersCommand, IsFixed, IsMemory};
-ghost use Rattle.dk_cli.specs.Commands.{asked_of, check, convert, extract, files_asked, files_of, steps};
+ghost use Rattle.dk_cli.specs.Commands.{asked_of, check, convert, expansion, extract, files_asked, files_of, steps};
 ghost use Rattle.dk_cli.specs.Steps.{AnswersDerivation, IsDerived, ReadsFile, answer_view};
 ghost use Rattle.dk_cli.specs.Views.{HasWorkers, command_view, names_view, output_view};
 
@@ -11,6 +11,7 @@ use crate::checking::checked_in;
 use crate::command::{Command, Names, asked_command};
 use crate::conversion::developed;
 use crate::derivation::{Derivation, derivation_in};
+use crate::expanding::expanded;
 use crate::extraction::extracted;
 use crate::judging::reported;
 use crate::output::{Output, made};
@@ -98,6 +99,24 @@ fn problems<I: Inputs>(alloc: Global, inputs: &mut I, names: Names<'_>) -> Resul
     extracted(alloc, &derivation)
 }
 
+fn expansion<R: Threads + Sync, I: Inputs, G: Gate>(
+    rt: &R,
+    alloc: Global,
+    inputs: &mut I,
+    names: Names<'_>,
+    limit: u64,
+    workers: u32,
+    gate: &G,
+) -> Result<Vec<u8>, Refusal>
+    requires { 0 < workers }
+    ensures same { I.told inputs.new ≡ I.told inputs.old }
+    ensures answers { AnswersCommand (I.told inputs.old) (expansion (names_view names.entry) limit)
+        (I.faults inputs.old) (I.faults inputs.new) (answer_view result) }
+{
+    let derivation = derivation_of(alloc, inputs, names)?;
+    expanded(rt, alloc, &derivation, limit, workers, gate)
+}
+
 fn check<I: Inputs>(alloc: Global, inputs: &mut I, name: &str) -> Result<Vec<u8>, Refusal>
     ensures same { I.told inputs.new ≡ I.told inputs.old }
     ensures answers { AnswersCommand (I.told inputs.old) (check name.now)
@@ -131,6 +150,11 @@ fn command_answer<R: Threads + Sync, I: Inputs, G: Gate>(
         } => made(convert(rt, alloc, inputs, names, limit, workers, gate)),
         Command::Steps { names, workers } => made(steps(rt, alloc, inputs, names, workers, gate)),
         Command::Extract(names) => made(problems(alloc, inputs, names)),
+        Command::Expansion {
+            names,
+            limit,
+            workers,
+        } => made(expansion(rt, alloc, inputs, names, limit, workers, gate)),
         Command::Check(name) => made(check(alloc, inputs, name)),
         Command::Help => Ok(Output::Fixed(usage())),
     }

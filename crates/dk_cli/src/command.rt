@@ -28,6 +28,11 @@ pub enum Command<'a> {
         workers: u32,
     },
     Extract(Names<'a>),
+    Expansion {
+        names: Names<'a>,
+        limit: u64,
+        workers: u32,
+    },
     Check(&'a str),
     Help,
 }
@@ -57,9 +62,19 @@ fn built_command<'a>(asked: Words<'a>) -> Option<Command<'a>>
             workers,
         }),
         Words::Extract { problem, trace, .. } => Some(Command::Extract(Names { problem, trace })),
+        Words::Expansion {
+            problem,
+            trace,
+            limit,
+            workers,
+        } => Some(Command::Expansion {
+            names: Names { problem, trace },
+            limit,
+            workers,
+        }),
         Words::Check { file } => Some(Command::Check(file)),
         Words::Help => Some(Command::Help),
-        Words::Expansion { .. } | Words::Generate { .. } => None,
+        Words::Generate { .. } => None,
     }
 }
 

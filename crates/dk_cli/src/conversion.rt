@@ -1,100 +1,20 @@
 //! What `convert` makes of a derivation: a text, or the first refusal.
-ghost use Rattle.std.specs.Prelude.{◌≡◌, ◌<◌, All, map, Ok, IfOk, OnOk};
-ghost use Rattle.flat_form.specs.Flat.{IsFlatProblem, IsFlatTrace, is_false};
-ghost use Rattle.dk_cli.specs.Conversion.{HasName, IsBuilt, IsDeveloped, IsFlatDeveloped, IsPlanIn, IsRootIn, IsWritten, barred, is_conjecture, names_conjecture, plan_refusal};
-ghost use Rattle.dk_cli.specs.Stages.{Answered, told_by};
-ghost use Rattle.dk_cli.specs.Steps.{IsDerived, answer_view, falsities};
+ghost use Rattle.std.specs.Prelude.{◌<◌, All, OnOk};
+ghost use Rattle.dk_cli.specs.Conversion.{HasName, IsDeveloped, IsWritten};
+ghost use Rattle.dk_cli.specs.Stages.{Answered};
+ghost use Rattle.dk_cli.specs.Steps.{IsDerived, answer_view};
 
 use crate::derivation::Derivation;
-use crate::judging::judged;
-use crate::refusal::{File, Refusal};
-use crate::weighing::weighed;
-use derivation_graph::root_by_marks;
+use crate::planning::planned;
+use crate::refusal::Refusal;
+use development::development;
 use dk_io::Gate;
-use dk_syntax::{Formula, Named, NoMemory, Problem, Seq, SymKey};
-use flat_development::development;
-use flat_form::{is_flat_problem, is_flat_trace};
-use flat_steps::{Instance, PlanFault, make_plan};
+use dk_syntax::{NoMemory, SymKey};
 use lp_term::ident_of;
 use lp_text::print;
+use plan::Plan;
 use std::alloc::Global;
 use std::thread::Threads;
-use tstp_trace::{StepSource, Trace};
-
-fn is_falsity(formula: &Formula) -> bool
-    ensures { result ≡ is_false formula.now }
-{
-    matches!(formula, Formula::False)
-}
-
-/// Which steps have the formula `$false`: the root is looked for by this alone.
-fn marks(alloc: Global, trace: &Trace) -> Result<Seq<bool>, NoMemory>
-    ensures { IfOk result (λ all. all ≡ falsities trace.now) }
-{
-    let mut all = Seq::new(alloc);
-    for step in trace.steps.as_slice() {
-        all.push(is_falsity(&step.formula))?;
-    }
-    Ok(all)
-}
-
-/// Whether a step from that source is a leaf that names the conjecture.
-fn is_barred(conjecture: &Option<Named>, source: &StepSource) -> bool
-    ensures { result ≡ names_conjecture conjecture.now source.now }
-{
-    match (conjecture, source) {
-        (Some(conjecture), StepSource::Leaf(name)) => conjecture.name.same(name),
-        _ => false,
-    }
-}
-
-fn bars(alloc: Global, problem: &Problem, trace: &Trace) -> Result<Seq<bool>, NoMemory>
-    ensures { IfOk result (λ all. all ≡ barred problem.now trace.now) }
-{
-    let mut all = Seq::new(alloc);
-    for step in trace.steps.as_slice() {
-        all.push(is_barred(&problem.conjecture, &step.source))?;
-    }
-    Ok(all)
-}
-
-/// The root of a trace.
-fn root_in(alloc: Global, problem: &Problem, trace: &Trace) -> Result<u32, Refusal>
-    ensures { Answered (IsRootIn problem.now trace.now) result }
-{
-    let marks = marks(alloc, trace)?;
-    let barred = bars(alloc, problem, trace)?;
-    if u32::try_from(marks.len()).is_err() {
-        return Err(Refusal::Memory);
-    }
-    match root_by_marks(&marks, &barred) {
-        Some(step) => Ok(step),
-        None => Err(Refusal::NoRefutation),
-    }
-}
-
-/// Interim: whether what is asked for is built.
-fn built(problem: &Problem, trace: &Trace) -> Result<(), Refusal>
-    ensures { Answered (IsBuilt problem.now trace.now) result }
-{
-    if !is_flat_problem(problem) {
-        return Err(Refusal::Unbuilt(File::Problem));
-    }
-    if !is_flat_trace(trace) {
-        return Err(Refusal::Unbuilt(File::Trace));
-    }
-    Ok(())
-}
-
-fn told_plan(found: Result<Seq<Instance>, PlanFault>) -> Result<Seq<Instance>, Refusal>
-    ensures { result ≡ told_by plan_refusal found }
-{
-    match found {
-        Ok(instances) => Ok(instances),
-        Err(PlanFault::Wrong { .. }) => Err(Refusal::Unbuilt(File::Trace)),
-        Err(PlanFault::Memory) => Err(Refusal::Memory),
-    }
-}
 
 /// What `ident_of` says of each symbol's identifier, for the proof that the text is read back.
 fn names(alloc: Global, symbols: &[SymKey]) -> Result<(), NoMemory>
@@ -106,29 +26,16 @@ fn names(alloc: Global, symbols: &[SymKey]) -> Result<(), NoMemory>
     Ok(())
 }
 
-/// The text of the development of these instances.
-fn written(alloc: Global, problem: &Problem, instances: &Seq<Instance>) -> Result<Vec<u8>, Refusal>
-    ensures { Answered (IsWritten problem.now instances.now) (answer_view result) }
-{
-    names(alloc, problem.symbols.as_slice())?;
-    let made = development(alloc, problem, instances)?;
-    let text = print(alloc, &made)?;
-    Ok(text)
-}
-
-/// The text of the flat part, which is built.
-fn flat_developed(alloc: Global, derivation: &Derivation, root: u32) -> Result<Vec<u8>, Refusal>
-    requires derived { IsDerived derivation.now }
-    requires root { IsRootIn derivation.now.problem derivation.now.trace (Ok root) }
-    ensures { Answered (IsFlatDeveloped derivation.now.problem derivation.now.trace
-        derivation.now.graph root) (answer_view result) }
+/// The text of the development of a plan.
+fn written(alloc: Global, derivation: &Derivation, plan: &Plan) -> Result<Vec<u8>, Refusal>
+    requires { IsDerived derivation.now }
+    ensures { Answered (IsWritten derivation.now plan.now) (answer_view result) }
 {
     let problem = &derivation.problem;
-    let trace = &derivation.trace;
-    built(problem, trace)?;
-    let graph = &derivation.graph;
-    let instances = told_plan(make_plan(alloc, problem, trace, graph, root))?;
-    written(alloc, problem, &instances)
+    names(alloc, problem.symbols.as_slice())?;
+    let made = development(alloc, problem, &derivation.trace, plan)?;
+    let text = print(alloc, &made)?;
+    Ok(text)
 }
 
 /// The text that a trace proves of a problem, with that limit on the weight, or the first refusal.
@@ -144,8 +51,6 @@ pub fn developed<R: Threads + Sync, G: Gate>(
     requires workers { 0 < workers }
     ensures { Answered (IsDeveloped limit derivation.now) (answer_view result) }
 {
-    let root = root_in(alloc, &derivation.problem, &derivation.trace)?;
-    let verdicts = judged(rt, alloc, derivation, workers, gate)?;
-    weighed(alloc, derivation, &verdicts, root, limit)?;
-    flat_developed(alloc, derivation, root)
+    let plan = planned(rt, alloc, derivation, limit, workers, gate)?;
+    written(alloc, derivation, &plan)
 }

@@ -1,6 +1,7 @@
 //! The program: reads a problem and a refutation of it, and writes a development whose `goal` has the
-//! problem's type (`convert`), the verdict on each step (`steps`), or each derived step as a problem (`extract`); or reads a development and says
-//! whether it is typed (`check`). `--help` alone writes the usage text.
+//! problem's type (`convert`), the verdict on each step (`steps`), each derived step as a problem
+//! (`extract`), or the report on what the development is made from (`expansion`); or reads a
+//! development and says whether it is typed (`check`). `--help` alone writes the usage text.
 //!
 //! `run` does all of it, over words, inputs, a sink and notes that its caller gives; `main` gives the
 //! real ones. What it answers is `IsOutcome` (specs/Outcome), how it is delivered `Delivers`
@@ -13,15 +14,16 @@ mod checking;
 mod command;
 mod conversion;
 mod derivation;
+mod expanding;
 mod extraction;
 mod judging;
 mod lines;
 mod output;
+mod planning;
 mod reading;
 mod refusal;
 mod run;
 mod type_lines;
-mod weighing;
 
 use dk_io::{ErrNotes, FileInputs, NoGate, OutSink};
 pub use refusal::{File, ItemFault, Refusal, Status, StepFault, TypeFault};

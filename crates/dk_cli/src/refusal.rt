@@ -26,8 +26,6 @@ pub enum Status {
     WriteFault = 6,
     Memory = 7,
     IllTyped = 8,
-    /// Interim: the problem or the trace is not built yet.
-    Unbuilt = 9,
 }
 
 /// Which file.
@@ -118,8 +116,6 @@ pub enum Refusal {
     OverWeight(u64),
     /// The first instance whose tree weight is above 1,000,000 is of that step.
     OverWide { step: u32 },
-    /// Interim: the problem or the trace is right so far, and not built yet.
-    Unbuilt(File),
     /// Writing failed.
     WriteFault,
     /// There was no memory.
@@ -165,7 +161,6 @@ impl Refusal {
             Refusal::Item { .. } | Refusal::NoRefutation => Status::Input,
             Refusal::Step { fault, .. } => fault.status(),
             Refusal::NotTyped(_) => Status::IllTyped,
-            Refusal::Unbuilt(_) => Status::Unbuilt,
             Refusal::WriteFault => Status::WriteFault,
             Refusal::Memory => Status::Memory,
         }
@@ -188,9 +183,6 @@ impl Refusal {
             Refusal::TooManyItems(File::Trace) => Some("too many items: trace"),
             Refusal::TooManyItems(File::Development) => Some("too many items: file"),
             Refusal::NoRefutation => Some("no refutation"),
-            Refusal::Unbuilt(File::Problem) => Some("not built: problem"),
-            Refusal::Unbuilt(File::Trace) => Some("not built: trace"),
-            Refusal::Unbuilt(File::Development) => Some("not built: file"),
             Refusal::WriteFault => Some("write fault"),
             Refusal::Memory => Some("out of memory"),
             Refusal::NotTptp { .. }

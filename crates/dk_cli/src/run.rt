@@ -5,10 +5,12 @@ ghost use Rattle.dk_cli.specs.Checking.{TypesAccepted, WritesTyped};
 ghost use Rattle.words.specs.Commands.{Names, Text};
 ghost use Rattle.words.specs.Reading.{asks_command};
 ghost use Rattle.words.specs.Views.{texts};
-ghost use Rattle.dk_cli.specs.Commands.{AskAlike, asked_of, check, convert, extract, files_asked, help, steps};
+ghost use Rattle.dk_cli.specs.Commands.{AskAlike, asked_of, check, convert, expansion, extract, files_asked, help, steps};
 ghost use Rattle.dk_cli.specs.Delivery.{Delivers, IsRefused, change};
+ghost use Rattle.dk_cli.specs.Expansion.{WritesReport};
 ghost use Rattle.dk_cli.specs.Extraction.{WritesProblems};
 ghost use Rattle.dk_cli.specs.Headline.{CanCome, CarriesOutEach, DoesOutcome, IsRun, Lacks, NotesByStatus, RefusesWords, WritesByStatus, WritesUsage};
+ghost use Rattle.dk_cli.specs.Introduced.{WritesNoIntroduced};
 ghost use Rattle.dk_cli.specs.Proof.{WritesProof};
 ghost use Rattle.dk_cli.specs.Refusals.{HasNumber};
 ghost use Rattle.dk_cli.specs.StepReport.{WritesLines};
@@ -148,6 +150,12 @@ pub fn run<R: Threads + Sync, I: Inputs, K: Sink, N: Notes, G: Gate>(
         → result ≡ Status.Done → WritesProof (I.told inputs.old) names
         (change (K.kept out.old) (K.kept out.new) (K.faults out.old) (K.faults out.new)) }
 
+    // No symbol that a step introduces is in that proof, nor is it declared with it.
+    ensures introduced { (names : Names) → (limit : ℕ)
+        → asked_of (texts words.now) ≡ Some (convert names limit)
+        → result ≡ Status.Done → WritesNoIntroduced (I.told inputs.old) names
+        (change (K.kept out.old) (K.kept out.new) (K.faults out.old) (K.faults out.new)) }
+
     // With status 0 what `steps` wrote are the lines of the verdicts on the steps, right or wrong.
     ensures lines { (names : Names) → asked_of (texts words.now) ≡ Some (steps names)
         → result ≡ Status.Done → WritesLines (I.told inputs.old) names
@@ -156,6 +164,12 @@ pub fn run<R: Threads + Sync, I: Inputs, K: Sink, N: Notes, G: Gate>(
     // With status 0 what `extract` wrote are the derived steps as problems.
     ensures problems { (names : Names) → asked_of (texts words.now) ≡ Some (extract names)
         → result ≡ Status.Done → WritesProblems (I.told inputs.old) names
+        (change (K.kept out.old) (K.kept out.new) (K.faults out.old) (K.faults out.new)) }
+
+    // With status 0 what `expansion` wrote is the report on the plan that the proof is made from.
+    ensures report { (names : Names) → (limit : ℕ)
+        → asked_of (texts words.now) ≡ Some (expansion names limit)
+        → result ≡ Status.Done → WritesReport (I.told inputs.old) names limit
         (change (K.kept out.old) (K.kept out.new) (K.faults out.old) (K.faults out.new)) }
 
     // With status 0 `check` wrote `typed` and a newline, and the file is a development that is accepted and typed;

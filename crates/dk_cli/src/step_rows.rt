@@ -241,7 +241,7 @@ impl Gate for Meeting {
 
 #[test]
 fn two_pieces_see_each_other(rt: HostRuntime) -> Result<(), Fail> {
-    for (command, status) in [("steps", Status::Done), ("convert", Status::Unbuilt)] {
+    for command in ["steps", "convert", "expansion"] {
         let gate = Meeting::new();
         let words = [command, "p", "t", "--workers", "2"];
         let found = run_past(
@@ -252,7 +252,7 @@ fn two_pieces_see_each_other(rt: HostRuntime) -> Result<(), Fail> {
             SOUND,
             &gate,
         )?;
-        assert!(rt; found.status == status && gate.is_seen());
+        assert!(rt; found.status == Status::Done && gate.is_seen());
     }
     Ok(())
 }
@@ -279,7 +279,38 @@ pub fn is_weighed<R: Threads + Sync + AllocGlobal>(rt: &R) -> Result<bool, Fail>
     let within = run_on(rt, &words, CHAIN.problem, trace, SOUND)?;
     let words = ["convert", "p", "t", "--limit", "19"];
     let over = run_on(rt, &words, CHAIN.problem, trace, SOUND)?;
-    Ok(within.status == Status::Unbuilt && over.is_refusal(Status::Limit, CHAIN.lines))
+    Ok(within.status == Status::Done && over.is_refusal(Status::Limit, CHAIN.lines))
+}
+
+/// The report on the drinker: an eigenvariable for its Skolem symbol, which the image is used at.
+const DRINKER_REPORT: &str = "eigen 0 f($any): ~![X0]:p(X0)
+instance 0 step 4 clause 0: p(f($any))
+thin 0 g - picks L terms f($any) skolems none
+instance 1 step 5 clause 0: p(f($any))
+instance 2 step 4 clause 1: ~p(f($any))
+thin 2 g - picks R terms $any skolems f($any)
+instance 3 step 6 clause 0: ~p(f($any))
+instance 4 step 7 clause 0: $false
+weight 11
+";
+
+#[test]
+fn the_drinker_is_reported(rt: HostRuntime) -> Result<(), Fail> {
+    let row = &IMAGES[0];
+    let trace = row.trace.as_bytes();
+    let words = ["expansion", "p", "t", "--limit=11", "--workers", "3"];
+    let found = run_on(&rt, &words, row.problem, trace, SOUND)?;
+    assert!(rt; found.status == Status::Done && found.notes.is_empty());
+    assert!(rt; found.out.as_slice() == DRINKER_REPORT.as_bytes());
+
+    let words = ["expansion", "p", "t", "--limit=10"];
+    let found = run_on(&rt, &words, row.problem, trace, SOUND)?;
+    assert!(rt; found.is_refusal(Status::Limit, "weight over 10\n"));
+    let wrong = &IMAGES[1];
+    let words = ["expansion", "p", "t"];
+    let found = run_on(&rt, &words, wrong.problem, wrong.trace.as_bytes(), SOUND)?;
+    assert!(rt; found.is_refusal(Status::Input, "step 2: wrong: not a Skolem image\n"));
+    Ok(())
 }
 
 #[test]

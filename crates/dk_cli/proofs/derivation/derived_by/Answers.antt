@@ -1,9 +1,9 @@
-use Rattle.std.proofs.Common.{◌≡◌, Err, Ok, ap, refl, subst, sym, ◌∙◌}
+use Rattle.std.proofs.Common.{◌≡◌, Err, Ok, ap, subst, sym, ◌∙◌}
 use Rattle.std.proofs.lemmas.Result.{err_from_is_err_and}
 use Rattle.dk_cli.specs.Derivations.{IsGraphIn, derivation}
 use Rattle.dk_cli.specs.Stages.{Answered}
 use Rattle.dk_cli.proofs.Derived.{graph_given}
-use Rattle.dk_cli.proofs.StageLaws.{goes_on, stops}
+use Rattle.dk_cli.proofs.StageLaws.{stops}
 use Rattle.dk_cli.proofs.derivation.derived_by.Goals as goal
 
 pub returns-in_err-graph-clause-answer : goal.returns-in_err-graph-clause-answer
@@ -15,5 +15,7 @@ returns-in_err-graph-clause-answer c =
 pub returns-clause-derived : goal.returns-clause-derived
 returns-clause-derived c = record {
   graph = graph_given c.args.trace c.in_ok-graph.graph (subst (Answered (IsGraphIn c.args.trace)) c.in_ok-graph.was c.graph_in.ensures);
+  names = c.requires.names;
   parents = c.requires.parents;
+  proper = c.requires.proper;
 }

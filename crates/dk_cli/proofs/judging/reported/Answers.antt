@@ -1,4 +1,4 @@
-use Rattle.std.proofs.Common.{Ok, ap, refl}
+use Rattle.std.proofs.Common.{Ok, ap}
 use Rattle.dk_cli.proofs.JudgingLaws.{verdicts_long}
 use Rattle.dk_cli.proofs.judging.reported.Goals as goal
 

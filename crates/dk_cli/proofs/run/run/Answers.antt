@@ -1,6 +1,8 @@
 use Rattle.dk_cli.proofs.Carried.{alike_carries, can_come, notes_by, read_lacks, read_only, read_rose, some_carries, some_does, words_if, words_only, writes_by, writes_usage}
+use Rattle.dk_cli.proofs.NoIntroduced.{writes_no_introduced}
 use Rattle.dk_cli.proofs.Proved.{writes_proof}
 use Rattle.dk_cli.proofs.Reported.{writes_lines}
+use Rattle.dk_cli.proofs.Expanded.{writes_report}
 use Rattle.dk_cli.proofs.Extracted.{writes_problems}
 use Rattle.dk_cli.proofs.Accepted.{types_accepted, writes_typed}
 use Rattle.dk_cli.proofs.run.run.Goals as goal
@@ -44,6 +46,9 @@ returns-clause-read_lacks g c = λ lacks. let run = c.run_answered.ensures.run i
 pub returns-clause-proof : goal.returns-clause-proof
 returns-clause-proof g c = λ names limit asked done. let run = c.run_answered.ensures.run in writes_proof _ _ _ _ run.answer _ _ _ run.answers run.delivers names limit asked done
 
+pub returns-clause-introduced : goal.returns-clause-introduced
+returns-clause-introduced g c = λ names limit asked done. let run = c.run_answered.ensures.run in writes_no_introduced _ _ _ _ run.answer _ _ _ run.answers run.delivers names limit asked done
+
 pub returns-clause-read_only : goal.returns-clause-read_only
 returns-clause-read_only g c = λ fault. let run = c.run_answered.ensures.run in read_only _ _ _ _ run.answer _ _ _ run.answers run.delivers fault
 
@@ -52,6 +57,9 @@ returns-clause-lines g c = λ names asked done. let run = c.run_answered.ensures
 
 pub returns-clause-problems : goal.returns-clause-problems
 returns-clause-problems g c = λ names asked done. let run = c.run_answered.ensures.run in writes_problems _ _ _ _ run.answer _ _ _ run.answers run.delivers names asked done
+
+pub returns-clause-report : goal.returns-clause-report
+returns-clause-report g c = λ names limit asked done. let run = c.run_answered.ensures.run in writes_report _ _ _ _ run.answer _ _ _ run.answers run.delivers names limit asked done
 
 pub returns-clause-typed : goal.returns-clause-typed
 returns-clause-typed g c = λ name asked done. let run = c.run_answered.ensures.run in writes_typed _ _ _ _ run.answer _ _ _ run.answers run.delivers name asked done

@@ -1,0 +1,20 @@
+use Rattle.std.proofs.Common.{◌≡◌, Err, Ok, ap, sym, ◌∙◌}
+use Rattle.std.proofs.lemmas.Result.{err_from_is_err_and}
+use Rattle.extract.specs.ExpansionReport.{report_text}
+use Rattle.dk_cli.specs.Planning.{IsPlanOf}
+use Rattle.dk_cli.specs.Steps.{answer_view}
+use Rattle.dk_cli.proofs.StageLaws.{goes_on, stops}
+use Rattle.dk_cli.proofs.expanding.expanded.Goals as goal
+
+pub returns-in_err-plan : goal.returns-in_err-plan
+returns-in_err-plan g c =
+    let d = c.args.derivation.now in
+    let end = err_from_is_err_and c.from_residual.result c.from_residual.ensures.1 in
+    stops (IsPlanOf c.args.limit d) (λ plan end. end ≡ Ok (report_text d.trace.steps plan)) c.planned.result end.0 (answer_view c.from_residual.result)
+    (c.in_err-plan.was ∙ ap Err (sym end.2)) (ap answer_view end.1) c.planned.ensures
+
+pub returns : goal.returns
+returns g c =
+    let d = c.args.derivation.now in
+    goes_on (IsPlanOf c.args.limit d) (λ plan end. end ≡ Ok (report_text d.trace.steps plan)) c.planned.result c.in_ok-plan.plan (Ok c.in_ok-text.text.items)
+    c.in_ok-plan.was c.planned.ensures (ap Ok c.in_ok-text.ensures)

@@ -13,7 +13,7 @@
 //! An instance of a hypothesis looks through the hypotheses for the leaf's name; an instance by a resolution writes its positive
 //! parent out once more.
 //!
-//! Laws for the crates above stand in `laws`: a plan whose instances are right can be built.
+//! Laws for the crates above stand in `laws` and, as a theorem, in `proofs/PlanLaws`: a plan whose instances are right can be built.
 #![tactic(auto)]
 
 mod body;

@@ -16,7 +16,6 @@ pub mod OneExpansion
 pub mod OneOutcome
 pub mod OneReport
 pub mod OneTerm
-pub mod PlanBody
 pub mod PlanningLaws
 pub mod ProperPlans
 pub mod Proved

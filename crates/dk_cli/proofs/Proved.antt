@@ -17,6 +17,7 @@ use Rattle.lp_term.specs.View.{term_of}
 use Rattle.lp_term.specs.declared.Dev.{Dev}
 use Rattle.lp_text.specs.Print.{text_of}
 use Rattle.plan.specs.declared.plan.Plan.{Plan}
+use Rattle.plan_typing.proofs.BodyLaws.{plan_body_typed}
 use Rattle.plan_typing.specs.Laws.{IsProperPlan, PlanBodyIsTyped, plan_body}
 use Rattle.tstp_trace.specs.declared.Trace.{Trace}
 use Rattle.dk_cli.specs.Answer.{Answers, AnswersCommand, IsTold}
@@ -34,11 +35,10 @@ use Rattle.dk_cli.specs.declared.refusal.Refusal.{Refusal}
 use Rattle.dk_cli.specs.declared.refusal.Status.{Status}
 use Rattle.dk_cli.specs.declared.refusal.Status.TheVariants as status
 use Rattle.dk_cli.proofs.Carried.{refusal_not_done}
-use Rattle.dk_cli.proofs.PlanBody.{plan_body_is_typed}
 use Rattle.dk_cli.proofs.PlanningLaws.{plan_found}
 use Rattle.dk_cli.proofs.ProperPlans.{proper_plan}
 use Rattle.dk_cli.proofs.ReadBack.{read_alone}
-use Rattle.dk_cli.proofs.ReadDerivations.{IsRead, derivation_read}
+use Rattle.dk_cli.proofs.ReadDerivations.{IsRead, are_read, derivation_read}
 use Rattle.dk_cli.proofs.StageLaws.{follows_found, found_same}
 
 -- the development of a proper plan is a proof
@@ -76,9 +76,9 @@ pub proved_by : (found other : Option (List ℕ)) (limit : ℕ) (d : Derivation)
 proved_by found other limit d text read h =
     let planned = follows_found (IsPlanOf limit d) (IsWritten d) text h in
     let plan = planned.0 in
-    let proper = proper_plan found other d read limit plan (plan_found limit d plan planned.1) in
+    let proper = proper_plan d.problem d.trace (are_read read.bytes read.others d.problem d.trace read.spelled read.traced) limit plan (plan_found limit d plan planned.1) in
     let development = planned.2.0 in
-    proof_text_of plan_body_is_typed d.problem d.trace limit plan proper development planned.2.1 text planned.2.2 (found_same {F = Refusal} text (text_of development) planned.2.3)
+    proof_text_of plan_body_typed d.problem d.trace limit plan proper development planned.2.1 text planned.2.2 (found_same {F = Refusal} text (text_of development) planned.2.3)
 
 -- a text is that of a proof of the problem that was read
 record IsReadProof (found : Option (List ℕ)) (text : List ℕ) : Type 0 where

@@ -2,13 +2,16 @@
 use Rattle.std.proofs.Common.{◌≡◌, ℕ, zero, suc, ◌<◌, List, length, get_or, Ok, None, Some, sym, ap, subst}
 use Rattle.std.proofs.lemmas.List.Elements.{All-get_or}
 use Rattle.std.proofs.lemmas.Option.{get_or_from_slice_get, slice_get_within}
-use Rattle.std.specs.Prelude.{All}
+use Rattle.std.proofs.lemmas.List.{map-append}
+use Rattle.std.specs.Prelude.{All, option_to_list}
 use Rattle.std.specs.declared.option.Option.{Option}
 use Rattle.derivation_graph.specs.Graphs.{HasNoCycle}
 use Rattle.derivation_graph.specs.declared.Graph.{Graph}
 use Rattle.dk_syntax.specs.Problems.{HasItsSymbols}
 use Rattle.dk_syntax.specs.declared.Problem.{Problem}
+use Rattle.dk_syntax.specs.declared.Named.{Named}
 use Rattle.plan.specs.Laws.{AreWellFormed}
+use Rattle.plan_typing.specs.Laws.{item_names}
 use Rattle.tptp_text.proofs.TextLaws.{proper_items}
 use Rattle.tptp_text.specs.ProperItems.{IsProper}
 use Rattle.tptp_text.specs.Text.{IsReadAnswer}
@@ -16,12 +19,13 @@ use Rattle.tptp_text.specs.declared.Item.{Item}
 use Rattle.tstp_trace.proofs.KeptLaws.{distinct_problem}
 use Rattle.tstp_trace.proofs.ProperLaws.{proper_problem, proper_trace}
 use Rattle.tstp_trace.specs.Names.{AreDistinct}
-use Rattle.tstp_trace.specs.Problems.{HasProperFormulas, IsProblemAnswer, IsProblemOf, names_of}
+use Rattle.tstp_trace.specs.Problems.{HasProperFormulas, IsProblemAnswer, IsProblemOf}
 use Rattle.tstp_trace.specs.Traces.{HasProperSteps, IsTraceAnswer}
 use Rattle.tstp_trace.specs.declared.Step.{Step}
 use Rattle.tstp_trace.specs.declared.Trace.{Trace}
 use Rattle.dk_cli.specs.Derivations.{IsDerivationIn, IsDerivationOf, IsDerivedBy, IsFile, IsGraphIn, IsProblemIn, IsText, IsTraceIn, derivation, problem_refusal, text_refusal, trace_refusal}
 use Rattle.dk_cli.specs.Stages.{Follows, IsToldBy}
+use Rattle.dk_cli.specs.Steps.{AreRead}
 use Rattle.dk_cli.specs.declared.derivation.Derivation.{Derivation}
 use Rattle.dk_cli.specs.declared.refusal.File.{File}
 use Rattle.dk_cli.specs.declared.refusal.File.TheVariants as file
@@ -73,16 +77,18 @@ module _ (bytes : List ℕ) (problem : Problem) (h : IsProblemIn bytes (Ok probl
       (read.0, told_found (text_refusal file.Problem) (IsReadAnswer bytes) read.0 read.1, told_found problem_refusal (IsProblemAnswer read.0) problem read.2)
 
   -- a problem that was read has its symbols
-  pub problem_has_symbols : HasItsSymbols problem
+  problem_has_symbols : HasItsSymbols problem
   problem_has_symbols = items_of_problem.2.symbols
 
   -- its formulas are proper
-  pub problem_is_proper : HasProperFormulas problem
+  problem_is_proper : HasProperFormulas problem
   problem_is_proper = let read = items_of_problem in proper_problem read.0 problem read.2 (proper_items bytes (Ok read.0) read.1)
 
   -- and its names are distinct
-  pub problem_has_names : AreDistinct (names_of problem)
-  problem_has_names = let read = items_of_problem in distinct_problem read.0 problem read.2
+  problem_has_names : AreDistinct (item_names problem)
+  problem_has_names =
+      let read = items_of_problem in
+      subst AreDistinct (sym (map-append (λ (named : Named). named.name) problem.hyps (option_to_list problem.conjecture))) (distinct_problem read.0 problem read.2)
 
 -- a trace that was read has proper steps
 trace_is_proper : (bytes : List ℕ) (trace : Trace) → IsTraceIn bytes (Ok trace) → HasProperSteps trace
@@ -102,8 +108,16 @@ steps_well_formed steps proper (suc place) step is =
 pub read_symbols : (found other : Option (List ℕ)) (d : Derivation) → IsDerivationOf found other (Ok d) → HasItsSymbols d.problem
 read_symbols found other d h = let read = derivation_read found other d h in problem_has_symbols read.bytes d.problem read.spelled
 
-pub steps_are_formed : (bytes : List ℕ) (trace : Trace) → IsTraceIn bytes (Ok trace) → AreWellFormed trace.steps
+steps_are_formed : (bytes : List ℕ) (trace : Trace) → IsTraceIn bytes (Ok trace) → AreWellFormed trace.steps
 steps_are_formed bytes trace h = steps_well_formed trace.steps (trace_is_proper bytes trace h)
 
 pub read_formed : (found other : Option (List ℕ)) (d : Derivation) → IsDerivationOf found other (Ok d) → AreWellFormed d.trace.steps
 read_formed found other d h = let read = derivation_read found other d h in steps_are_formed read.others d.trace read.traced
+
+pub are_read : (bytes others : List ℕ) (problem : Problem) (trace : Trace) → IsProblemIn bytes (Ok problem) → IsTraceIn others (Ok trace) → AreRead problem trace
+are_read bytes others problem trace spelled traced = record {
+  proper = problem_is_proper bytes problem spelled;
+  symbols = problem_has_symbols bytes problem spelled;
+  items = problem_has_names bytes problem spelled;
+  formed = steps_are_formed others trace traced;
+}

@@ -35,6 +35,10 @@ abbrev pub IsPlanned : Derivation → ℕ → Result Plan Refusal → Type 0
 IsPlanned d limit (Ok plan) = IsPlan d.problem d.trace limit plan
 IsPlanned d limit (Err why) = ⊥
 
+-- This is a plan for the derivation, for some limit.
+abbrev pub IsPlanFor : Derivation → Plan → Type 0
+IsPlanFor d plan = (limit : ℕ) × IsPlan d.problem d.trace limit plan
+
 -- The plan of a derivation with that root and these verdicts: what the root needs is within the limits.
 abbrev pub IsBoundedPlan : Derivation → ℕ → ℕ → Verdicts → Result Plan Refusal → Type 0
 IsBoundedPlan d limit root verdicts answer = Follows (IsWeighed d limit root verdicts) (λ nothing. IsPlanned d limit) answer

@@ -6,10 +6,15 @@ use Rattle.std.specs.declared.alloc.Global.{Global}
 use Rattle.dk_io.specs.Causes.{Rose}
 use Rattle.dk_io.specs.Outside.{Told, IsAbsent, IsFile as IsFileOf, Tells}
 use Rattle.derivation_graph.specs.Graphs.{IsGraphAnswer}
+use Rattle.dk_syntax.specs.Problems.{HasItsSymbols}
+use Rattle.dk_syntax.specs.declared.Problem.{Problem}
+use Rattle.plan.specs.Laws.{AreWellFormed}
+use Rattle.plan_typing.specs.Laws.{item_names}
 use Rattle.step_check.specs.Steps.{nodes_of}
 use Rattle.tstp_trace.specs.Names.{AreDistinct}
 use Rattle.tstp_trace.specs.Problems.{HasProperFormulas}
 use Rattle.tstp_trace.specs.Traces.{HaveFitParents, names_of}
+use Rattle.tstp_trace.specs.declared.Trace.{Trace}
 use Rattle.dk_cli.specs.Answer.{IsAnswer, IsOfDevelopment, IsOfTrace, IsTold, LacksOneOf}
 use Rattle.words.specs.Commands.{Names}
 use Rattle.dk_cli.specs.Commands.{files_of_names}
@@ -46,9 +51,16 @@ AnswersFile told name file before now answer = IsAnswer (LacksOneOf told (name �
 abbrev pub AnswersDerivation : Told → Names → ℕ → ℕ → Result Derivation Refusal → Type 0
 AnswersDerivation told names before now answer = IsAnswer (LacksOneOf told (files_of_names names)) IsOfTrace (IsTold told (IsDerivationAt names)) before now answer
 
--- What holds of a derivation that was read, whether or not its bytes are told.
+-- What holds of a problem and a trace that were read, whether or not their bytes are told.
+pub record AreRead (problem : Problem) (trace : Trace) : Type 0 where
+  pub proper : HasProperFormulas problem
+  pub symbols : HasItsSymbols problem
+  pub items : AreDistinct (item_names problem)
+  pub formed : AreWellFormed trace.steps
+
+-- And of a derivation.
 pub record IsDerived (d : Derivation) : Type 0 where
   pub graph : IsGraphAnswer (nodes_of d.trace) (Ok d.graph)
   pub names : AreDistinct (names_of d.trace)
   pub parents : HaveFitParents d.trace.steps
-  pub proper : HasProperFormulas d.problem
+  pub read : AreRead d.problem d.trace

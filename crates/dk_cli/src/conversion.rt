@@ -1,6 +1,7 @@
 //! What `convert` makes of a derivation: a text, or the first refusal.
 ghost use Rattle.std.specs.Prelude.{◌<◌, All, OnOk};
 ghost use Rattle.dk_cli.specs.Conversion.{HasName, IsDeveloped, IsWritten};
+ghost use Rattle.dk_cli.specs.Planning.{IsPlanFor};
 ghost use Rattle.dk_cli.specs.Stages.{Answered};
 ghost use Rattle.dk_cli.specs.Steps.{IsDerived, answer_view};
 
@@ -28,7 +29,8 @@ fn names(alloc: Global, symbols: &[SymKey]) -> Result<(), NoMemory>
 
 /// The text of the development of a plan.
 fn written(alloc: Global, derivation: &Derivation, plan: &Plan) -> Result<Vec<u8>, Refusal>
-    requires { IsDerived derivation.now }
+    requires derived { IsDerived derivation.now }
+    requires plan { IsPlanFor derivation.now plan.now }
     ensures { Answered (IsWritten derivation.now plan.now) (answer_view result) }
 {
     let problem = &derivation.problem;

@@ -1,12 +1,11 @@
 //! The problem, the trace and the graph that two files hold.
 ghost use Rattle.std.specs.Prelude.{◌≡◌, map, IfOk};
 ghost use Rattle.tstp_trace.specs.Names.{AreDistinct};
-ghost use Rattle.tstp_trace.specs.Problems.{HasProperFormulas};
 ghost use Rattle.tstp_trace.specs.Traces.{HaveFitParents, names_of};
 ghost use Rattle.dk_cli.specs.Derivations.{IsDerivationIn, IsDerivedBy, IsGraphIn, graph_refusal};
 ghost use Rattle.step_check.specs.Steps.{node_of, nodes_of, parent_names};
 ghost use Rattle.dk_cli.specs.Stages.{Answered, told_by};
-ghost use Rattle.dk_cli.specs.Steps.{IsDerived};
+ghost use Rattle.dk_cli.specs.Steps.{AreRead, IsDerived};
 
 use crate::reading::{problem_in, trace_in};
 use crate::refusal::{Refusal, StepFault};
@@ -92,7 +91,7 @@ fn graph_in(alloc: Global, trace: &Trace) -> Result<Graph, Refusal>
 fn derived_by(alloc: Global, problem: Problem, trace: Trace) -> Result<Derivation, Refusal>
     requires names { AreDistinct (names_of trace) }
     requires parents { HaveFitParents trace.steps }
-    requires proper { HasProperFormulas problem }
+    requires read { AreRead problem trace }
     ensures answer { Answered (IsDerivedBy problem trace) result }
     ensures derived { IfOk result IsDerived }
 {

@@ -5,8 +5,8 @@
 //! one instance that it needs. These are a right list of instances, the eigenvariables of the needed Skolem terms are in turn, and so the
 //! whole body is typed, closed and over the problem's symbols.
 //!
-//! Laws for the crates above stand in `laws` (each one's contract is a law), and as theorems in `proofs/BodyLaws` (the body is typed,
-//! closed, and over the problem's symbols).
+//! Laws for the crates above stand in `laws` (each one's contract is a law), and as theorems in `proofs/BodyLaws` (the
+//! instances are right; the body is typed, closed, and over the problem's symbols).
 #![tactic(auto)]
 
 pub mod laws;

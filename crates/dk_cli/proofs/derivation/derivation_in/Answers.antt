@@ -2,7 +2,7 @@ use Rattle.std.proofs.Common.{Err, ap, subst, sym, ◌∙◌}
 use Rattle.std.proofs.lemmas.Result.{err_from_is_err_and}
 use Rattle.dk_cli.specs.Derivations.{IsDerivedBy, IsProblemIn, IsTraceIn}
 use Rattle.dk_cli.specs.Stages.{Answered, Follows}
-use Rattle.dk_cli.proofs.ReadDerivations.{problem_is_proper}
+use Rattle.dk_cli.proofs.ReadDerivations.{are_read}
 use Rattle.dk_cli.proofs.StageLaws.{goes_on, stops}
 use Rattle.dk_cli.proofs.derivation.derivation_in.Goals as goal
 
@@ -27,7 +27,9 @@ returns-clause-answer c =
     (goes_on (IsTraceIn c.args.trace.items) (IsDerivedBy c.in_ok-problem.problem) c.trace_in.result c.in_ok-trace.trace c.derived_by.result
     c.in_ok-trace.was c.trace_in.ensures.answer c.derived_by.ensures.answer)
 
-pub derived_by-requires-clause-proper : goal.derived_by-requires-clause-proper
-derived_by-requires-clause-proper c =
+pub derived_by-requires-clause-read : goal.derived_by-requires-clause-read
+derived_by-requires-clause-read c =
     let bytes = c.args.problem.items in
-    problem_is_proper bytes c.in_ok-problem.problem (subst (Answered (IsProblemIn bytes)) c.in_ok-problem.was c.problem_in.ensures)
+    let others = c.args.trace.items in
+    are_read bytes others c.in_ok-problem.problem c.in_ok-trace.trace
+    (subst (Answered (IsProblemIn bytes)) c.in_ok-problem.was c.problem_in.ensures) (subst (Answered (IsTraceIn others)) c.in_ok-trace.was c.trace_in.ensures.answer)

@@ -17,5 +17,5 @@ returns-clause-derived c = record {
   graph = graph_given c.args.trace c.in_ok-graph.graph (subst (Answered (IsGraphIn c.args.trace)) c.in_ok-graph.was c.graph_in.ensures);
   names = c.requires.names;
   parents = c.requires.parents;
-  proper = c.requires.proper;
+  read = c.requires.read;
 }

@@ -1,3 +1,0 @@
-pub mod Literals
-pub mod Flat
-pub mod Room

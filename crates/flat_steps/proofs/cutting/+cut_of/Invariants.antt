@@ -1,5 +1,0 @@
-use Rattle.std.proofs.Common.{length}
-use Rattle.flat_steps.proofs.cutting.+cut_of.Given as goal
-
-abbrev pub decreases-cut_of : goal.decreases-cut_of
-decreases-cut_of l = length l.clause.now

@@ -3,6 +3,7 @@ pub mod ClauseSteps
 pub mod FamilyLaws
 pub mod LetLaws
 pub mod LetSteps
+pub mod NameLaws
 pub mod NestLaws
 pub mod NestSteps
 pub mod OrderSteps

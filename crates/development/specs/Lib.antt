@@ -5,5 +5,6 @@ pub mod Families
 pub mod Laws
 pub mod Lets
 pub mod Nest
+pub mod PlaceMaps
 pub mod Places
 pub mod Proofs

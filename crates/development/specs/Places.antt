@@ -1,8 +1,11 @@
 -- Places of the body.
-use Rattle.std.specs.Prelude.{◌≡◌, ℕ, ◌+◌, ◌<◌, ◌≤◌, length}
+use Rattle.std.specs.Prelude.{◌≡◌, ℕ, ◌+◌, ◌<◌, ◌≤◌, List, length}
+use Rattle.std.specs.HashMap.{get_by}
 use Rattle.std.specs.List.{range_with_len}
+use Rattle.std.specs.Str.{bytes_eq}
 use Rattle.assemble.specs.Fitting.{symbols_of}
 use Rattle.assemble.specs.Levels.{Levels}
+use Rattle.development.specs.PlaceMaps.{place_from}
 use Rattle.development.specs.declared.given.Given.{Given}
 use Rattle.nd_term.specs.declared.place.Place.{Place}
 use Rattle.plan.specs.declared.plan.Plan.{Plan}
@@ -25,9 +28,10 @@ abbrev pub levels_in : (denied first count begin done : ℕ) → Levels
 levels_in denied first count begin done =
     record { hypotheses = range_with_len 0 denied; denied = denied; first = first; count = count; done = range_with_len begin done }
 
--- the Skolem symbols and the number of hypotheses are those of the plan and the problem, and all is bound before the instances
+-- the Skolem symbols, the places of names and the number of hypotheses are those of the plan and the problem, and all is bound before the instances
 pub record IsGiven (given : Given) : Type 0 where
   pub symbols : given.symbols.now ≡ symbols_of given.plan.now.origins.list
+  pub names : (name : List ℕ) → get_by (λ k. bytes_eq name k.now) given.names.now ≡ place_from name 0 given.problem.now.hyps
   pub denied : given.denied ≡ length given.problem.now.hyps
   pub below : given.denied < given.begin
   pub room : given.first + (length given.plan.now.order + length given.plan.now.order) ≤ given.begin

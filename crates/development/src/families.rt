@@ -96,7 +96,7 @@ fn no_family(alloc: Global) -> Result<Family, NoMemory>
 /// The body of a quantified formula, where these terms are put for the quantifiers around it.
 fn body_with(
     alloc: Global,
-    given: &Given<'_>,
+    given: &Given<'_, '_>,
     f: &Formula,
     terms: &[Term],
     there: &Place<'_>,
@@ -115,7 +115,7 @@ fn body_with(
 /// The family of a Skolem term whose origin is known.
 fn family_from(
     alloc: Global,
-    given: &Given<'_>,
+    given: &Given<'_, '_>,
     source: &Source<'_>,
     there: &Place<'_>,
 ) -> Result<Family, NoMemory>
@@ -149,7 +149,7 @@ fn family_from(
 /// The family of a needed Skolem term.
 pub fn family_of(
     alloc: Global,
-    given: &Given<'_>,
+    given: &Given<'_, '_>,
     t: &Term,
     there: &Place<'_>,
 ) -> Result<Family, NoMemory>

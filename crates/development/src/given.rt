@@ -5,16 +5,19 @@ ghost use Rattle.development.specs.Places.{further_in};
 use dk_syntax::{NoMemory, Problem, Seq, SymKey};
 use nd_term::Place;
 use plan::Plan;
+use std::collections::HashMap;
 use tstp_trace::Trace;
 
 /// A problem with a plan, and where the variables of the body are bound.
 #[derive(Clone, Copy)]
-pub struct Given<'a> {
+pub struct Given<'a, 'b> {
     pub problem: &'a Problem,
     pub trace: &'a Trace,
     pub plan: &'a Plan,
     /// The Skolem symbols.
     pub symbols: &'a Seq<SymKey>,
+    /// The place of the first hypothesis of each name.
+    pub names: &'a HashMap<&'b [u8], u32>,
     /// The level of the denied conjecture, which is the number of hypotheses.
     pub denied: u32,
     /// The level of the first eigenvariable, and of the first instance where there is none.

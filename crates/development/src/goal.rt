@@ -1,13 +1,16 @@
 //! The definition of goal, and the whole development.
 #![tactic(auto)]
 
-ghost use Rattle.std.specs.Prelude.{◌≡◌, ◌<◌, ◌++◌, ◌∷◌, [], codes, length, IfOk};
+ghost use Rattle.std.specs.Prelude.{◌≡◌, ◌<◌, ◌++◌, ◌∷◌, [], ℕ, List, codes, length, IfOk};
+ghost use Rattle.std.specs.HashMap.{get_by};
+ghost use Rattle.std.specs.Str.{bytes_eq};
 ghost use Rattle.assemble.specs.Fitting.{eigenvariables_of, symbols_of};
 ghost use Rattle.assemble.specs.Places.{last_of};
 ghost use Rattle.assemble.specs.Problem.{theory_conclusion};
 ghost use Rattle.development.specs.Buildable.{IsBuildable};
 ghost use Rattle.development.specs.Development.{IsDevelopment};
 ghost use Rattle.development.specs.Nest.{inner};
+ghost use Rattle.development.specs.PlaceMaps.{place_from};
 ghost use Rattle.development.specs.Places.{IsGiven, IsLaidOut};
 ghost use Rattle.lp_term.specs.LambdaPi.{app};
 ghost use Rattle.lp_term.specs.Prelude.{prelude};
@@ -21,6 +24,7 @@ ghost use Rattle.plan_typing.specs.Reasons.{theory_instances};
 use crate::body::{assumed, conclusion, drinking, symbols_of};
 use crate::given::{Given, further};
 use crate::lets::lets;
+use crate::names::places_by_name;
 use crate::nest::nest;
 use dk_syntax::{NoMemory, Problem, Seq, SymKey};
 use lp_term::{Command, Dev, Ident, Lp, constants, goal_type, prelude};
@@ -28,6 +32,7 @@ use nd_term::build::{apply, symbol, variable};
 use nd_term::contradict;
 use plan::Plan;
 use std::alloc::Global;
+use std::collections::HashMap;
 use tstp_trace::Trace;
 
 /// The variable of the last of so many instances, inside all lets, and `any` where there is none.
@@ -59,13 +64,16 @@ fn binders(order: usize) -> usize
 }
 
 /// The levels of what the body binds.
-fn laid_out<'a>(
+fn laid_out<'a, 'b>(
     problem: &'a Problem,
     trace: &'a Trace,
     plan: &'a Plan,
     symbols: &'a Seq<SymKey>,
-) -> Result<Given<'a>, NoMemory>
-    requires { symbols.now ≡ symbols_of plan.now.origins.list }
+    names: &'a HashMap<&'b [u8], u32>,
+) -> Result<Given<'a, 'b>, NoMemory>
+    requires symbols { symbols.now ≡ symbols_of plan.now.origins.list }
+    requires names { (name : List ℕ)
+        → get_by (λ k. bytes_eq name k.now) names.now ≡ place_from name 0 problem.now.hyps }
     ensures given { IfOk result IsGiven }
     ensures levels { IfOk result IsLaidOut }
     ensures problem { IfOk result (λ given. given.problem.now ≡ problem.entry.now) }
@@ -81,6 +89,7 @@ fn laid_out<'a>(
         trace,
         plan,
         symbols,
+        names,
         denied,
         first,
         begin,
@@ -88,7 +97,7 @@ fn laid_out<'a>(
 }
 
 /// The body inside the denied conjecture.
-fn inner(alloc: Global, given: &Given<'_>, conjecture: &Lp) -> Result<Lp, NoMemory>
+fn inner(alloc: Global, given: &Given<'_, '_>, conjecture: &Lp) -> Result<Lp, NoMemory>
     requires given { IsGiven given.now }
     requires levels { IsLaidOut given.now }
     requires buildable { IsBuildable given.now.problem.now given.now.trace.now given.now.plan.now }
@@ -114,7 +123,8 @@ fn body(alloc: Global, problem: &Problem, trace: &Trace, plan: &Plan) -> Result<
     ensures { IfOk result (λ t. term_of t ≡ plan_body problem.now trace.now plan.now) }
 {
     let symbols = symbols_of(alloc, plan.origins.list.as_slice())?;
-    let given = laid_out(problem, trace, plan, &symbols)?;
+    let names = places_by_name(alloc, problem.hyps.as_slice())?;
+    let given = laid_out(problem, trace, plan, &symbols, &names)?;
     let conjecture = conclusion(alloc, &problem.conjecture)?;
     let inside = inner(alloc, &given, &conjecture)?;
     let whole = contradict(alloc, &conjecture, inside)?;

@@ -40,18 +40,18 @@ fn in_order(alloc: Global, place: &Place<'_>, level: u32, count: usize) -> Resul
 /// Falsity from the hypothesis that a leaf names.
 fn hypothesis_consumed(
     alloc: Global,
-    given: &Given<'_>,
+    given: &Given<'_, '_>,
     it: &StepMap,
     thin: &Thin,
     place: &Place<'_>,
 ) -> Result<Lp, NoMemory>
+    requires { IsGiven given.now }
     ensures { IfOk result (λ t. term_of t
         ≡ proof_of_leaf given.now.problem.now given.now.trace.now given.now.plan.now place.now
         thin.now it.now true) }
 {
-    let number = hypothesis_of(given.problem, given.trace, it.leaf);
-    let base = u32::try_from(number).map_err(|_| NoMemory)?;
-    match given.problem.hyps.as_slice().get(number) {
+    let base = hypothesis_of(given, it.leaf);
+    match given.problem.hyps.as_slice().get(base as usize) {
         Some(named) => consume(alloc, &named.formula, thin, base, place),
         None => consume(alloc, &Formula::False, thin, base, place),
     }
@@ -60,7 +60,7 @@ fn hypothesis_consumed(
 /// Falsity from the denied conjecture.
 fn conjecture_consumed(
     alloc: Global,
-    given: &Given<'_>,
+    given: &Given<'_, '_>,
     it: &StepMap,
     thin: &Thin,
     place: &Place<'_>,
@@ -79,7 +79,7 @@ fn conjecture_consumed(
 /// Falsity from what is known of a leaf.
 fn consumed(
     alloc: Global,
-    given: &Given<'_>,
+    given: &Given<'_, '_>,
     it: &StepMap,
     thin: &Thin,
     place: &Place<'_>,
@@ -97,7 +97,7 @@ fn consumed(
 
 fn proof_of_tree(
     alloc: Global,
-    given: &Given<'_>,
+    given: &Given<'_, '_>,
     it: &Instance,
     thin: &Thin,
     place: &Place<'_>,
@@ -152,7 +152,7 @@ fn needed_levels(alloc: Global, begin: u32, first: u32, second: u32) -> Result<S
 /// The proof by a justification.
 fn justified(
     alloc: Global,
-    given: &Given<'_>,
+    given: &Given<'_, '_>,
     it: &Instance,
     j: &Justification,
     place: &Place<'_>,
@@ -171,7 +171,7 @@ fn justified(
 /// The proof by the step's verdict, or that of the one instance that is needed.
 fn proof_by(
     alloc: Global,
-    given: &Given<'_>,
+    given: &Given<'_, '_>,
     it: &Instance,
     place: &Place<'_>,
 ) -> Result<Lp, NoMemory>
@@ -193,7 +193,7 @@ fn proof_by(
 /// The proof of falsity of an instance at a place where the variables of its literals are those bound last.
 pub fn proof_of_instance(
     alloc: Global,
-    given: &Given<'_>,
+    given: &Given<'_, '_>,
     it: &Instance,
     thin: Option<&Thin>,
     place: &Place<'_>,

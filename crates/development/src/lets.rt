@@ -23,7 +23,7 @@ use nd_term::build::{apply, lambda};
 use std::alloc::Global;
 
 /// The place of that level.
-pub fn place_of<'a>(given: &Given<'a>, level: u32) -> Place<'a>
+pub fn place_of<'a>(given: &Given<'a, '_>, level: u32) -> Place<'a>
     requires { IsGiven given.now }
     ensures { IsIn given.now.plan.now given.now.first level result }
 {
@@ -53,7 +53,7 @@ pub fn let_in(alloc: Global, a: Lp, t: Lp, u: Lp) -> Result<Lp, NoMemory>
 }
 
 /// The let of the instance of that number.
-fn instance_let(alloc: Global, given: &Given<'_>, number: u32, rest: Lp) -> Result<Lp, NoMemory>
+fn instance_let(alloc: Global, given: &Given<'_, '_>, number: u32, rest: Lp) -> Result<Lp, NoMemory>
     requires given { IsGiven given.now }
     requires buildable { IsBuildable given.now.problem.now given.now.trace.now given.now.plan.now }
     requires within { number < length given.now.plan.now.instances.rows }
@@ -75,7 +75,7 @@ fn instance_let(alloc: Global, given: &Given<'_>, number: u32, rest: Lp) -> Resu
 }
 
 /// The lets of all instances over what stands inside them, put together from the last to the first.
-pub fn lets(alloc: Global, given: &Given<'_>, inside: Lp) -> Result<Lp, NoMemory>
+pub fn lets(alloc: Global, given: &Given<'_, '_>, inside: Lp) -> Result<Lp, NoMemory>
     requires given { IsGiven given.now }
     requires buildable { IsBuildable given.now.problem.now given.now.trace.now given.now.plan.now }
     requires inside { term_of inside

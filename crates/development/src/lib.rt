@@ -10,7 +10,7 @@
 //! any, and the instances.
 //!
 //! The chains of hypotheses, of eigenvariables, of instances and of literals are put together by loops, in a fixed depth of stack.
-//! An instance of a hypothesis looks through the hypotheses for the leaf's name; an instance by a resolution writes its positive
+//! Hypotheses are looked up by their names, in a map that is made once. An instance by a resolution writes its positive
 //! parent out once more.
 //!
 //! Laws for the crates above stand in `laws` and, as a theorem, in `proofs/PlanLaws`: a plan whose instances are right can be built.
@@ -25,6 +25,7 @@ mod instances;
 pub mod laws;
 mod lets;
 mod lookups;
+mod names;
 mod nest;
 
 pub use goal::development;

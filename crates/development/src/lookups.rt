@@ -2,36 +2,17 @@
 #![tactic(auto)]
 
 ghost use Rattle.std.specs.Prelude.{◌≡◌, MatchOption, None, slice_get, Some};
-ghost use Rattle.std.specs.List.{position};
+ghost use Rattle.development.specs.Places.{IsGiven};
 ghost use Rattle.ground_instances.specs.Keys.{verdict_in};
 ghost use Rattle.plan_typing.specs.Reasons.{justification_at, justification_from, justification_in, leaf_name, name_of_step, place_named};
-ghost use Rattle.step_check.specs.Steps.{has_name, step_in};
+ghost use Rattle.step_check.specs.Steps.{step_in};
 
-use dk_syntax::{Named, Problem};
+use crate::given::Given;
+use crate::names::place_in;
 use step_chain::Chain;
 use step_check::Verdict;
 use step_clause::Justification;
-use tstp_trace::{Step, StepSource, Trace};
-
-fn is_named(named: &Named, name: &[u8]) -> bool
-    ensures { result ≡ has_name name.now named.now }
-{
-    name == named.name.as_bytes()
-}
-
-/// The place of the first hypothesis of that name.
-fn found(hyps: &[Named], name: &[u8]) -> Option<usize>
-    ensures { result ≡ position (has_name name.now) hyps.now }
-{
-    hyps.iter().position(|named| is_named(named, name))
-}
-
-/// The same, and 0 where there is none.
-fn place_named(hyps: &[Named], name: &[u8]) -> usize
-    ensures { result ≡ place_named hyps.now name.now }
-{
-    found(hyps, name).unwrap_or(0)
-}
+use tstp_trace::{Step, StepSource};
 
 fn leaf_name(source: &StepSource) -> &[u8]
     ensures { result.now ≡ leaf_name source.now }
@@ -62,13 +43,14 @@ fn name_of_step(steps: &[Step], number: u32) -> &[u8]
     }
 }
 
-/// The place of the hypothesis that the leaf of that number names. Hypotheses are looked through.
-pub fn hypothesis_of(problem: &Problem, trace: &Trace, leaf: u32) -> usize
-    ensures { result
-        ≡ place_named problem.now.hyps (name_of_step (step_in trace.now.steps leaf)) }
+/// The place of the hypothesis that the leaf of that number names.
+pub fn hypothesis_of(given: &Given<'_, '_>, leaf: u32) -> u32
+    requires { IsGiven given.now }
+    ensures { result ≡ place_named given.now.problem.now.hyps
+        (name_of_step (step_in given.now.trace.now.steps leaf)) }
 {
-    let name = name_of_step(trace.steps.as_slice(), leaf);
-    place_named(problem.hyps.as_slice(), name)
+    let name = name_of_step(given.trace.steps.as_slice(), leaf);
+    place_in(given.names, name)
 }
 
 /// The justification at a stage of a chain.

@@ -54,7 +54,7 @@ fn witness_type(alloc: Global, positive: bool, body: &Lp) -> Result<Lp, NoMemory
 }
 
 /// The variable of the drinker of a sign, at a place of the level.
-fn drinker_variable(given: &Given<'_>, positive: bool, level: u32) -> Result<Lp, NoMemory>
+fn drinker_variable(given: &Given<'_, '_>, positive: bool, level: u32) -> Result<Lp, NoMemory>
     ensures { IfOk result (λ t. term_of t ≡ drinker positive (at_level level (given.now.denied + 1))
         (at_level level (given.now.denied + 2))) }
 {
@@ -97,7 +97,7 @@ fn marks(alloc: Global, count: usize) -> Result<Seq<Term>, NoMemory>
 /// The part of the nest for a Skolem term, where as many eigenvariables are bound as there are marks.
 fn eigenvariable(
     alloc: Global,
-    given: &Given<'_>,
+    given: &Given<'_, '_>,
     t: &Term,
     known: &Seq<Term>,
     conjecture: &Lp,
@@ -125,7 +125,12 @@ fn eigenvariable(
 }
 
 /// The whole nest, put together from the last eigenvariable to the first.
-pub fn nest(alloc: Global, given: &Given<'_>, conjecture: &Lp, inside: Lp) -> Result<Lp, NoMemory>
+pub fn nest(
+    alloc: Global,
+    given: &Given<'_, '_>,
+    conjecture: &Lp,
+    inside: Lp,
+) -> Result<Lp, NoMemory>
     requires { IsGiven given.now }
     ensures { IfOk result (λ t. term_of t ≡ nested given.now.denied given.now.first 0
         (eigenvariables_of given.now.plan.now.origins.list given.now.plan.now.order)

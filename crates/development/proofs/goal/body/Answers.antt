@@ -27,7 +27,7 @@ conclusion-requires c =
 pub assumed-requires : goal.assumed-requires
 assumed-requires c =
     let problem = c.args.problem.now in
-    subst (All (λ (h : Named). IsClosed h.formula)) (sym c.as_slice-2.ensures)
+    subst (All (λ (h : Named). IsClosed h.formula)) (sym c.as_slice-3.ensures)
     (all_closed problem.hyps (every_parts (map (λ named. named.formula) problem.hyps) (formula_of problem.conjecture) c.requires.closed).0)
 
 pub returns : goal.returns
@@ -45,7 +45,7 @@ returns c =
     let inside : term_of c.in_ok-inside.inside ≡ inner (length hs) es list f =
     c.in_ok-inside.ensures
     ∙ (λ k. inner (denied k) (eigenvariables_of (given.plan k).origins.list (given.plan k).order) (theory_instances (given.problem k) (given.trace k) (given.plan k)) (theory_conclusion (given.problem k).conjecture)) in
-    IfOk-weaker c.assumed.result (λ t. term_of t ≡ assumed (theory_formulas c.as_slice-2.result.now) (term_of c.in_ok-whole.whole)) (λ t. term_of t ≡ plan_body problem trace plan)
-    (λ t e. e ∙ (λ k. assumed (theory_formulas (c.as_slice-2.ensures k)) ((c.in_ok-whole.ensures.term ∙ (λ j. contradiction (c.in_ok-conjecture.ensures j) (inside j))) k))
+    IfOk-weaker c.assumed.result (λ t. term_of t ≡ assumed (theory_formulas c.as_slice-3.result.now) (term_of c.in_ok-whole.whole)) (λ t. term_of t ≡ plan_body problem trace plan)
+    (λ t e. e ∙ (λ k. assumed (theory_formulas (c.as_slice-3.ensures k)) ((c.in_ok-whole.ensures.term ∙ (λ j. contradiction (c.in_ok-conjecture.ensures j) (inside j))) k))
     ∙ sym (body_is hs es f list))
     c.assumed.ensures

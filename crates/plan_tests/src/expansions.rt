@@ -182,6 +182,69 @@ fn terms_of_one_depth_stand_by_their_rank(rt: HostRuntime) -> Result<(), Fail> {
     Ok(())
 }
 
+const INNER_PROBLEM: &str = "fof(x,axiom,?[X]:![Y]:?[Z]:t(X,Y,Z)).
+fof(g,conjecture,?[U,V]:t(U,U,V)).
+";
+
+const INNER_TRACE: &str = "fof(x,axiom,?[X]:![Y]:?[Z]:t(X,Y,Z),file(q,x)).
+fof(s,plain,![Y]:?[Z]:t(k,Y,Z),inference(k,[status(esa)],[x])).
+fof(t,plain,![Y]:t(k,Y,h(Y)),inference(k,[status(esa)],[s])).
+fof(g,conjecture,?[U,V]:t(U,U,V),file(q,g)).
+fof(n,negated_conjecture,![U,V]:~t(U,U,V),inference(n,[status(cth)],[g])).
+cnf(e,plain,$false,inference(r,[status(thm)],[t,n])).
+";
+
+const INNER_REPORT: &str = "eigen 0 k: ?[X0]:![X1]:?[X2]:t(X0,X1,X2)
+eigen 1 h(k): ?[X0]:t(k,k,X0)
+instance 0 step 3 clause 0: t(k,k,h(k))
+thin 0 x + picks none terms k skolems k, h(k)
+instance 1 step 5 clause 0: ~t(k,k,h(k))
+thin 1 g - picks none terms k, h(k) skolems none
+instance 2 step 6 clause 0: $false
+weight 7
+";
+
+// The inner existential's origin formula has the outer one's own Skolem term and the argument of its own.
+#[test]
+fn an_origin_formula_has_the_terms_around(rt: HostRuntime) -> Result<(), Fail> {
+    let text = report(&rt, rt.alloc(), INNER_PROBLEM, INNER_TRACE)?;
+    assert_eq!(rt; text.as_slice(), INNER_REPORT.as_bytes());
+    Ok(())
+}
+
+const EITHER_PROBLEM: &str = "fof(x,axiom,(![X]:p(X))<=>(?[X]:q(X))).
+fof(g,conjecture,?[X]:(~p(X)|q(X))).
+";
+
+const EITHER_TRACE: &str = "fof(x,axiom,(![X]:p(X))<=>(?[X]:q(X)),file(x,x)).
+fof(g,conjecture,?[X]:(~p(X)|q(X)),file(x,g)).
+fof(s,plain,(~p(f)|q(g))&(![X]:~q(X)|![X]:p(X)),inference(k,[status(esa)],[x])).
+fof(n,negated_conjecture,![X]:(p(X)&~q(X)),inference(n,[status(cth)],[g])).
+cnf(c1,plain,q(g),inference(r,[status(thm)],[s,n])).
+cnf(e,plain,$false,inference(r,[status(thm)],[c1,n])).
+";
+
+const EITHER_REPORT: &str = "eigen 0 f: ~![X0]:p(X0)
+eigen 1 g: ?[X0]:q(X0)
+instance 0 step 4 clause 0: p(f)
+thin 0 g - picks L terms f skolems none
+instance 1 step 3 clause 0: ~p(f) | q(g)
+thin 1 x + picks L terms none skolems f, g
+instance 2 step 5 clause 0: q(g)
+instance 3 step 4 clause 1: ~q(g)
+thin 3 g - picks R terms g skolems none
+instance 4 step 6 clause 0: $false
+weight 12
+";
+
+// Both sides of an equivalence have existentials, each with the sign of its side.
+#[test]
+fn sides_of_an_equivalence_have_their_signs(rt: HostRuntime) -> Result<(), Fail> {
+    let text = report(&rt, rt.alloc(), EITHER_PROBLEM, EITHER_TRACE)?;
+    assert_eq!(rt; text.as_slice(), EITHER_REPORT.as_bytes());
+    Ok(())
+}
+
 const CHAIN_PROBLEM: &str = "cnf(a1,axiom,p).
 cnf(a2,axiom,~p|q).
 cnf(a3,axiom,~q).

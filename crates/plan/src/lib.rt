@@ -17,8 +17,10 @@
 //! `proofs/Existence` (which steps have maps), `proofs/OriginLaws` (the origins are what the order
 //! of Skolem terms rests on), `proofs/FitOrigins` (kinds and arities of their symbols),
 //! `proofs/OneAnswer` (one map, one list of origins, one thin tree), `proofs/OnePull` (the answer
-//! on the instances of a root), `proofs/OnePlan` (one plan) and `proofs/GroundTrees` (terms of thin
-//! trees and of ground clauses are ground).
+//! on the instances of a root), `proofs/OnePlan` (one plan), `proofs/GroundTrees` (terms of thin
+//! trees and of ground clauses are ground), `proofs/LeafSymbols` (the symbols of leaves are the
+//! problem's), `proofs/FreshLists` (no symbol is introduced twice), `proofs/Visited` (no instance stands
+//! twice), and on lists `proofs/Membership` and `proofs/Counts`.
 #![tactic(auto)]
 
 mod given;

@@ -18,7 +18,8 @@ use Rattle.normal_form.specs.declared.clause_list.ClauseList.{ClauseList}
 use Rattle.plan_symbols.proofs.Justified.{AreOver, before_further, justification_over, ranged}
 use Rattle.plan_symbols.proofs.Repair.{literal_inside}
 use Rattle.plan_symbols.proofs.RowsOver.{every_slice, renamed_over}
-use Rattle.plan_symbols.proofs.TermsOver.{any_over, every_append, every_first, every_map, every_rest, instance_over, substituted_over, var_over}
+use Rattle.plan_symbols.proofs.EveryLaws.{every_both, every_head, every_map, every_tail}
+use Rattle.plan_symbols.proofs.TermsOver.{any_over, instance_over, substituted_over, var_over}
 use Rattle.plan_symbols.specs.Known.{AreListsOver, IsClauseOver, JustificationOver}
 use Rattle.plan_symbols.specs.Over.{IsLiteralOver, IsTermOver}
 use Rattle.plan_symbols.specs.Repair.{repaired, repaired_literal, repairing}
@@ -115,8 +116,8 @@ module _ (symbols : List SymKey) where
   once_over : (seen lits lits' : List Literal) → IsOnce seen lits lits' → AreOver symbols lits
       → AreOver symbols lits'
   once_over seen lits lits' (none _) h = every_nil
-  once_over seen lits lits' (again _ l rest once _ more) h = once_over seen rest once more (every_rest h)
-  once_over seen lits lits' (new _ l rest once _ more) h = every_cons (every_first h) (once_over (seen ++ l ∷ []) rest once more (every_rest h))
+  once_over seen lits lits' (again _ l rest once _ more) h = once_over seen rest once more (every_tail h)
+  once_over seen lits lits' (new _ l rest once _ more) h = every_cons (every_head h) (once_over (seen ++ l ∷ []) rest once more (every_tail h))
 
   -- ---- resolvents
 
@@ -152,7 +153,7 @@ module _ (symbols : List SymKey) where
       let values : (j : ℕ) → j < first.vars → IsTermOver symbols (t j) = before_further symbols first.vars w.0 t t w.2 in
       let values' : (j : ℕ) → j < second.vars → IsTermOver symbols (u j) = before_further symbols second.vars w.0 u u w.3 in
       let left : AreOver symbols (left_over first second link.taken link.others t u) =
-      every_append (kept_over t first.lits link.taken (instances_below first.vars t first.lits n values a))
+      every_both (kept_over t first.lits link.taken (instances_below first.vars t first.lits n values a))
       (kept_over u second.lits link.others (instances_below second.vars u second.lits m values' b)) in
       let lits = once_over [] (left_over first second link.taken link.others t u) it.lits it.once left in
       let places = place_of (quants_of it.lits) in
@@ -183,10 +184,10 @@ module _ (symbols : List SymKey) where
         numbered = every_nil;
       }
   continuation_over target number middle lists links mids steps a b n h all (goes _ _ next rest link links' row resolvent mids' step steps' at made more) =
-      let row_over : IsClauseOver symbols row.clause = every_slice next.rows link.number row (every_first h) at in
+      let row_over : IsClauseOver symbols row.clause = every_slice next.rows link.number row (every_head h) at in
       let row_numbered : IsNumbered row.clause = all_slice (λ row. IsNumbered row.clause) next.rows link.number row (all_first IsNumberedList next rest all) at in
       let one = resolvent_over number middle row.clause link resolvent step b n row_over row_numbered made in
-      let others = continuation_over target 0 resolvent rest links' mids' steps' a one.lits one.numbered (every_rest h) (all_rest IsNumberedList next rest all) more in
+      let others = continuation_over target 0 resolvent rest links' mids' steps' a one.lits one.numbered (every_tail h) (all_rest IsNumberedList next rest all) more in
       record {
         steps = every_cons one.step others.steps;
         mids = every_cons one.lits others.mids;
@@ -202,6 +203,6 @@ module _ (symbols : List SymKey) where
       let lists : AreListsOver symbols (it.first ∷ it.rest) = subst (AreListsOver symbols) it.whole b in
       let numbered : AreNumbered (it.first ∷ it.rest) = subst AreNumbered it.whole n in
       continuation_over target way.start it.row.clause it.rest way.links chain.mids chain.steps a
-      (every_slice it.first.rows way.start it.row (every_first lists) it.at)
+      (every_slice it.first.rows way.start it.row (every_head lists) it.at)
       (all_slice (λ row. IsNumbered row.clause) it.first.rows way.start it.row (all_first IsNumberedList it.first it.rest numbered) it.at)
-      (every_rest lists) (all_rest IsNumberedList it.first it.rest numbered) it.continues
+      (every_tail lists) (all_rest IsNumberedList it.first it.rest numbered) it.continues

@@ -13,7 +13,8 @@ use Rattle.ground_instances.specs.declared.instance.Instance.{Instance}
 use Rattle.normal_form.specs.ClauseLists.{clause_rows}
 use Rattle.plan.specs.Laws.{AreRightSteps, AreWellFormed, judged_of}
 use Rattle.plan_symbols.proofs.RowsOver.{every_slice, rows_over}
-use Rattle.plan_symbols.proofs.TermsOver.{any_over, every_append, every_first, every_map, every_rest, instance_over, substituted_over}
+use Rattle.plan_symbols.proofs.EveryLaws.{every_both, every_head, every_map, every_tail}
+use Rattle.plan_symbols.proofs.TermsOver.{any_over, instance_over, substituted_over}
 use Rattle.plan_symbols.proofs.VerdictsOver.{AreStepsOver, PutNoOthers, stands_over, verdict_over}
 use Rattle.plan_symbols.specs.Known.{IsClauseOver, JustificationOver}
 use Rattle.plan_symbols.specs.Over.{IsLiteralOver, IsTermOver}
@@ -81,10 +82,10 @@ module _ (symbols : List SymKey) where
 
     visits_over : {before todo after : List Key} → Visits (judged_of case list) before todo after → Every IsKeyOver before → Every IsKeyOver todo → Every IsKeyOver after
     visits_over (done before) h k = h
-    visits_over (seen before one rest after there more) h k = visits_over more h (every_rest k)
+    visits_over (seen before one rest after there more) h k = visits_over more h (every_tail k)
     visits_over (fresh before one rest needs between after new need visit more) h k =
-        let mids = visits_over visit h (needs_over need (every_first k)) in
-        visits_over more (every_append mids (every_cons (every_first k) every_nil)) (every_rest k)
+        let mids = visits_over visit h (needs_over need (every_head k)) in
+        visits_over more (every_both mids (every_cons (every_head k) every_nil)) (every_tail k)
 
     -- the literals of an instance's clause are over the symbols
     pub clause_over : {one : Key} {clause : Clause} → IsClauseOf (judged_of case list) one clause → IsClauseOver symbols clause

@@ -15,7 +15,8 @@ use Rattle.plan.specs.OnePlan.{roots_of}
 use Rattle.plan.specs.Thins.{AreThins}
 use Rattle.plan_symbols.proofs.InstancesOver.{instances_over, IsOverAll}
 use Rattle.plan_symbols.proofs.PremisesOver.{all_over, all_symbols}
-use Rattle.plan_symbols.proofs.TermsOver.{every_append, literal_apart}
+use Rattle.plan_symbols.proofs.EveryLaws.{every_both}
+use Rattle.plan_symbols.proofs.TermsOver.{literal_apart}
 use Rattle.plan_symbols.proofs.ThinsOver.{IsThinAll, thins_over}
 use Rattle.plan_symbols.proofs.VerdictsOver.{AreStepsOver, PutNoOthers}
 use Rattle.plan_symbols.specs.Laws.{RootsAreWellFormed}
@@ -34,16 +35,16 @@ module _ (symbols : List SymKey) where
 
   clause_over : (lits : List Literal) → Every (IsLiteralOver symbols) lits → Every (IsTermOver symbols) (clause_terms lits)
   clause_over [] h = every_nil
-  clause_over (l ∷ lits) (every_cons w ws) = every_append (literal_apart symbols l w).each (clause_over lits ws)
+  clause_over (l ∷ lits) (every_cons w ws) = every_both (literal_apart symbols l w).each (clause_over lits ws)
 
   clauses_over : (instances : List Instance) → Every (IsOverAll symbols) instances → Every (IsTermOver symbols) (flat_map clause_terms (clauses_in instances))
   clauses_over [] h = every_nil
-  clauses_over (it ∷ instances) (every_cons w ws) = every_append (clause_over it.lits w.lits) (clauses_over instances ws)
+  clauses_over (it ∷ instances) (every_cons w ws) = every_both (clause_over it.lits w.lits) (clauses_over instances ws)
 
   -- ---- the terms of thin trees
 
   thin_over : (thin : Thin) → IsThinAll symbols thin → Every (IsTermOver symbols) (thin_terms thin)
-  thin_over thin h = every_append h.terms h.skolems
+  thin_over thin h = every_both h.terms h.skolems
 
   module _ (case : Case) (list : List Verdict) (right : AreRightSteps case list) (formed : AreWellFormed case.steps) (over : AreStepsOver case list symbols) where
     trees_over : (instances : List Instance) (thins : List (Option Thin)) → Every (IsOverAll symbols) instances → AreThins (judged_of case list) instances thins
@@ -53,7 +54,7 @@ module _ (symbols : List SymKey) where
     trees_over (it ∷ instances) [] h k = absurd k
     trees_over (it ∷ instances) (None ∷ thins) (every_cons w ws) k = trees_over instances thins ws k.1
     trees_over (it ∷ instances) (Some thin ∷ thins) (every_cons w ws) k =
-        every_append (thin_over thin (thins_over symbols case list right formed over it thin w.terms k.0)) (trees_over instances thins ws k.1)
+        every_both (thin_over thin (thins_over symbols case list right formed over it thin w.terms k.0)) (trees_over instances thins ws k.1)
 
 -- so are the roots of a plan, where most general substitutions put no other symbols
 pub roots_by : ((symbols : List SymKey) → PutNoOthers symbols) → RootsAreWellFormed
@@ -65,5 +66,5 @@ roots_by put problem trace limit plan h own formed t m =
     let over : AreStepsOver case list symbols = all_over case list formed in
     let instances = instances_over symbols case list right formed (put symbols) over plan.root (instances_of plan.instances) h.instances.0 in
     let trees = trees_over symbols case list right formed over (instances_of plan.instances) plan.thins instances h.thins in
-    let roots : Every (IsTermOver symbols) (roots_of plan) = every_append trees (clauses_over symbols (instances_of plan.instances) instances) in
+    let roots : Every (IsTermOver symbols) (roots_of plan) = every_both trees (clauses_over symbols (instances_of plan.instances) instances) in
     (every_among roots t (among (roots_of plan) t m)).formed

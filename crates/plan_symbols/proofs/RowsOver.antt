@@ -16,8 +16,9 @@ use Rattle.normal_form.specs.declared.clause_list.ClauseRow.{ClauseRow}
 use Rattle.normal_form.specs.declared.form.Nf.{Nf, the_lemmas as of_forms}
 use Rattle.normal_form.specs.declared.form.Nf.TheVariants as nf
 use Rattle.normal_form.specs.declared.raw.Raw.{Raw}
-use Rattle.plan_symbols.proofs.FormsOver.{HasOver}
-use Rattle.plan_symbols.proofs.TermsOver.{atom_kept, every_append, every_map, literal_apart, literal_over, var_over}
+use Rattle.plan_symbols.proofs.FormSymbols.{IsFormOver}
+use Rattle.plan_symbols.proofs.EveryLaws.{every_both, every_map}
+use Rattle.plan_symbols.proofs.TermsOver.{atom_kept, literal_apart, literal_over, var_over}
 use Rattle.plan_symbols.specs.Over.{IsLiteralOver, IsTermOver}
 
 -- ---- new numbers
@@ -50,24 +51,24 @@ module _ (symbols : List SymKey) where
 
   pairs_over : {l m : List Raw} → Every IsRawOver l → Every IsRawOver m → Every IsRawOver (pairs_of l m)
   pairs_over every_nil k = every_nil
-  pairs_over (every_cons {a = a} i h) k = every_append (every_map (beside a) (λ b w. every_append i w) k) (pairs_over h k)
+  pairs_over (every_cons {a = a} i h) k = every_both (every_map (beside a) (λ b w. every_both i w) k) (pairs_over h k)
 
   abbrev HasRows : Nf → Type 0
-  HasRows a = HasOver symbols (form_of a) → (n : ℕ) (r : List ℕ) → Every IsRawOver ((rows_of a).1 n r)
+  HasRows a = IsFormOver symbols (form_of a) → (n : ℕ) (r : List ℕ) → Every IsRawOver ((rows_of a).1 n r)
 
   raws_over : (a : Nf) → HasRows a
   raws_over = form_induction HasRows
       (λ h n r. subst (Every IsRawOver) (sym (rows-True n r)) every_nil)
       (λ h n r. subst (Every IsRawOver) (sym (rows-False n r)) (every_cons every_nil every_nil))
-      (λ l h n r. subst (Every IsRawOver) (sym (rows-Lit l n r)) (every_cons (every_cons (renamed_over (owner r) l (subst (HasOver symbols) (form-Lit l) h)) every_nil) every_nil))
+      (λ l h n r. subst (Every IsRawOver) (sym (rows-Lit l n r)) (every_cons (every_cons (renamed_over (owner r) l (subst (IsFormOver symbols) (form-Lit l) h)) every_nil) every_nil))
       (λ a b g k h n r.
-      let w = subst (HasOver symbols) (form-And a b) h in
+      let w = subst (IsFormOver symbols) (form-And a b) h in
       subst (Every IsRawOver) (sym (rows-And a b n r))
-      (every_append (every_map (taking false) (λ x v. v) (g w.0 n r)) (every_map (taking true) (λ x v. v) (k w.1 (n + (rows_of a).0) r))))
+      (every_both (every_map (taking false) (λ x v. v) (g w.0 n r)) (every_map (taking true) (λ x v. v) (k w.1 (n + (rows_of a).0) r))))
       (λ a b g k h n r.
-      let w = subst (HasOver symbols) (form-Or a b) h in
+      let w = subst (IsFormOver symbols) (form-Or a b) h in
       subst (Every IsRawOver) (sym (rows-Or a b n r)) (pairs_over (g w.0 n r) (k w.1 (n + (rows_of a).0) r)))
-      (λ a g h n r. subst (Every IsRawOver) (sym (rows-All a n r)) (g (subst (HasOver symbols) (form-All a) h) (n + 1) (n ∷ r)))
+      (λ a g h n r. subst (Every IsRawOver) (sym (rows-All a n r)) (g (subst (IsFormOver symbols) (form-All a) h) (n + 1) (n ∷ r)))
       (λ a g h n r. subst (Every IsRawOver) (sym (rows-Ex a n r)) every_nil)
 
   -- the literals of the clause are over the symbols
@@ -77,7 +78,7 @@ module _ (symbols : List SymKey) where
   row_over : (row : Raw) → IsRawOver row → IsRowOver (row_of row)
   row_over row h = every_map (renamed_literal (place_of (quants_of row.lits))) (renamed_over (place_of (quants_of row.lits))) h
 
-  pub rows_over : (a : Nf) → HasOver symbols (form_of a) → Every IsRowOver (clause_rows a)
+  pub rows_over : (a : Nf) → IsFormOver symbols (form_of a) → Every IsRowOver (clause_rows a)
   rows_over a h = every_map row_of row_over (raws_over a h 0 [])
 
 -- what holds of each element of a list, at a number

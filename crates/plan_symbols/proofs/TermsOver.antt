@@ -1,5 +1,5 @@
 -- Terms and literals over a list of symbols, and what keeps them so.
-use Rattle.std.proofs.Common.{◌≡◌, ℕ, Bool, true, false, ◌&&◌, List, [], ◌∷◌, ◌++◌, length, map, refl, sym, ap₂, ◌∙◌, subst}
+use Rattle.std.proofs.Common.{◌≡◌, ℕ, Bool, true, false, ◌&&◌, List, [], ◌∷◌, length, map, refl, sym, ap₂, ◌∙◌, subst}
 use Rattle.std.proofs.lemmas.List.{length-map}
 use Rattle.dk_syntax.proofs.ListLaws.{for_each, ForEach}
 use Rattle.dk_syntax.proofs.SubstitutionLaws.{substituted-Any, substituted-App, substituted-Var}
@@ -14,31 +14,10 @@ use Rattle.dk_syntax.specs.declared.symbol.Kind.TheVariants.{Function, Predicate
 use Rattle.dk_syntax.specs.declared.symbol.SymKey.{SymKey}
 use Rattle.dk_syntax.specs.declared.term.Term.{Term}
 use Rattle.dk_syntax.specs.declared.term.Term.TheVariants.{Any, App, Var}
+use Rattle.plan_symbols.proofs.EveryLaws.{every_back, every_both, every_front, every_head, every_tail}
 use Rattle.plan_symbols.specs.Over.{IsListed, IsLiteralOver, IsTermOver}
 
--- ---- lists
-
-pub every_left : {A : Type 0} {p : A → Type 0} (l m : List A) → Every p (l ++ m) → Every p l
-every_left [] m h = every_nil
-every_left (a ∷ l) m (every_cons w ws) = every_cons w (every_left l m ws)
-
-pub every_right : {A : Type 0} {p : A → Type 0} (l m : List A) → Every p (l ++ m) → Every p m
-every_right [] m h = h
-every_right (a ∷ l) m (every_cons w ws) = every_right l m ws
-
-pub every_append : {A : Type 0} {p : A → Type 0} {l m : List A} → Every p l → Every p m → Every p (l ++ m)
-every_append every_nil w = w
-every_append (every_cons i h) w = every_cons i (every_append h w)
-
-pub every_map : {A B : Type 0} {p : A → Type 0} {q : B → Type 0} {l : List A} (f : A → B) → ((a : A) → p a → q (f a)) → Every p l → Every q (map f l)
-every_map f w every_nil = every_nil
-every_map f w (every_cons {a = a} i h) = every_cons (w a i) (every_map f w h)
-
-pub every_first : {A : Type 0} {p : A → Type 0} {a : A} {l : List A} → Every p (a ∷ l) → p a
-every_first (every_cons w ws) = w
-
-pub every_rest : {A : Type 0} {p : A → Type 0} {a : A} {l : List A} → Every p (a ∷ l) → Every p l
-every_rest (every_cons w ws) = ws
+-- ---- tests
 
 pub both : (a b : Bool) → a ≡ true → b ≡ true → (a && b) ≡ true
 both a b h k = ap₂ (λ x y. x && y) h k
@@ -63,8 +42,8 @@ module _ (symbols : List SymKey) where
   args_apart [] w h = every_nil
   args_apart (t ∷ args) w h =
       let parts = both_true (well_formed_term t) (all_true (map well_formed_term args)) w in
-      every_cons (record { formed = parts.0; listed = every_left (term_occurrences t) (joined (map term_occurrences args)) h })
-      (args_apart args parts.1 (every_right (term_occurrences t) (joined (map term_occurrences args)) h))
+      every_cons (record { formed = parts.0; listed = every_front (term_occurrences t) (joined (map term_occurrences args)) h })
+      (args_apart args parts.1 (every_back (term_occurrences t) (joined (map term_occurrences args)) h))
 
   pub args_formed : {args : List Term} → Every (IsTermOver symbols) args → all_true (map well_formed_term args) ≡ true
   args_formed every_nil = refl
@@ -72,7 +51,7 @@ module _ (symbols : List SymKey) where
 
   pub args_listed : {args : List Term} → Every (IsTermOver symbols) args → Every (IsListed symbols) (joined (map term_occurrences args))
   args_listed every_nil = every_nil
-  args_listed (every_cons w ws) = every_append w.listed (args_listed ws)
+  args_listed (every_cons w ws) = every_both w.listed (args_listed ws)
 
   -- an application, by its symbol and its arguments
   pub record IsAppOver (f : SymKey) (args : List Term) : Type 0 where
@@ -84,7 +63,7 @@ module _ (symbols : List SymKey) where
   app_apart f args h =
       let parts = both_true (fits_symbol Function f (length args)) (all_true (map well_formed_term args)) (sym (well_formed-App f args) ∙ h.formed) in
       let all = subst (Every (IsListed symbols)) (occurrences-App f args) h.listed in
-      record { fits = parts.0; listed = every_first all; each = args_apart args parts.1 (every_rest all) }
+      record { fits = parts.0; listed = every_head all; each = args_apart args parts.1 (every_tail all) }
 
   pub app_over : (f : SymKey) (args : List Term) → IsAppOver f args → IsTermOver symbols (App f args)
   app_over f args h = record {
@@ -101,7 +80,7 @@ module _ (symbols : List SymKey) where
   pub literal_apart : (l : Literal) → IsLiteralOver symbols l → IsAtomOver l.pred l.args
   literal_apart l h =
       let parts = both_true (fits_symbol Predicate l.pred (length l.args)) (all_true (map well_formed_term l.args)) h.formed in
-      record { fits = parts.0; listed = every_first h.listed; each = args_apart l.args parts.1 (every_rest h.listed) }
+      record { fits = parts.0; listed = every_head h.listed; each = args_apart l.args parts.1 (every_tail h.listed) }
 
   pub literal_over : (l : Literal) → IsAtomOver l.pred l.args → IsLiteralOver symbols l
   literal_over l h = record {

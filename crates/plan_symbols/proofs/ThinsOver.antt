@@ -22,7 +22,8 @@ use Rattle.plan.specs.Origins.{IsFitEntry}
 use Rattle.plan.specs.Thins.{IsThin, IsTreeOf, of_form, of_image}
 use Rattle.plan_symbols.proofs.FormsOver.{function_fits, IsEntryOver}
 use Rattle.plan_symbols.proofs.InstancesOver.{value_over}
-use Rattle.plan_symbols.proofs.TermsOver.{any_over, app_over, every_append}
+use Rattle.plan_symbols.proofs.EveryLaws.{every_both}
+use Rattle.plan_symbols.proofs.TermsOver.{any_over, app_over}
 use Rattle.plan_symbols.proofs.VerdictsOver.{AreStepsOver, every_of}
 use Rattle.plan_symbols.specs.Over.{IsTermOver}
 use Rattle.step_check.specs.Steps.{Case, stands_in}
@@ -79,7 +80,7 @@ module _ (symbols : List SymKey) where
   chosen_over v w h k u e (or a b) picks =
       let first = chosen_over v w h k u e a picks in
       let second = chosen_over v w h k (alls a + u) (exs a + e) b (chosen v w u e a picks).left in
-      record { terms = every_append first.terms second.terms; skolems = every_append first.skolems second.skolems }
+      record { terms = every_both first.terms second.terms; skolems = every_both first.skolems second.skolems }
   chosen_over v w h k u e (all a) picks = let c = chosen_over v w h k (suc u) e a picks in record { terms = every_cons (h u) c.terms; skolems = c.skolems }
   chosen_over v w h k u e (ex a) picks = let c = chosen_over v w h k u (suc e) a picks in record { terms = c.terms; skolems = every_cons (k e) c.skolems }
 

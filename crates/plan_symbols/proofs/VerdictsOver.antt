@@ -15,7 +15,8 @@ use Rattle.plan.proofs.FitOrigins.{own_fits}
 use Rattle.plan.proofs.Membership.{Among}
 use Rattle.plan.proofs.StepMaps.{entries_of}
 use Rattle.plan.specs.Laws.{AreRightSteps, AreWellFormed, judged_of}
-use Rattle.plan_symbols.proofs.FormsOver.{HasOver, image_over, IsEntryOver, IsFormulaOver, normal_over}
+use Rattle.plan_symbols.proofs.FormSymbols.{IsFormOver}
+use Rattle.plan_symbols.proofs.FormsOver.{image_over, IsEntryOver, IsFormulaOver, normal_over}
 use Rattle.plan_symbols.proofs.RowsOver.{rows_over}
 use Rattle.plan_symbols.specs.Known.{AreListsOver, AreRowsOver, IsClauseOver, JustificationOver}
 use Rattle.plan_symbols.specs.Over.{IsListed}
@@ -99,11 +100,11 @@ pub record AreStepsOver (case : Case) (list : List Verdict) (symbols : List SymK
 module _ (case : Case) (list : List Verdict) (right : AreRightSteps case list) (formed : AreWellFormed case.steps) (symbols : List SymKey) (put : PutNoOthers symbols) (over : AreStepsOver case list symbols) where
   -- ---- forms
 
-  own_by : (i : ℕ) (step : Option Step) → step_in case.steps i ≡ step → HasOver symbols (form_of (form_of_step case.problem step))
-  own_by i None h = subst (HasOver symbols) (sym form-True) tt
+  own_by : (i : ℕ) (step : Option Step) → step_in case.steps i ≡ step → IsFormOver symbols (form_of (form_of_step case.problem step))
+  own_by i None h = subst (IsFormOver symbols) (sym form-True) tt
   own_by i (Some step) h = normal_over symbols step.formula (not (is_conjecture_leaf case.problem step.source)) (over.steps i step h)
 
-  pub own_over : (i : ℕ) → HasOver symbols (form_of (own_form case i))
+  pub own_over : (i : ℕ) → IsFormOver symbols (form_of (own_form case i))
   own_over i = own_by i (step_in case.steps i) refl
 
   pub entries_over : (i : ℕ) (v : Verdict) → Has (judged_of case list) i v → Every (IsEntryOver symbols) (entries_of v)
@@ -111,7 +112,7 @@ module _ (case : Case) (list : List Verdict) (right : AreRightSteps case list) (
       every_of (IsEntryOver symbols) (entries_of v)
       (λ one m. record { fit = own_fits case formed (verdict_at case list right.are right.right i v has) one m; listed = over.puts i v has one m })
 
-  pub stands_over : {i : ℕ} {r : Nf} → Stands (judged_of case list) i r → HasOver symbols (form_of r)
+  pub stands_over : {i : ℕ} {r : Nf} → Stands (judged_of case list) i r → IsFormOver symbols (form_of r)
   stands_over (own i step v has base at) = normal_over symbols step.formula (sign_of v) (over.steps i step at)
   stands_over (image i q r s m has one up img) = image_over symbols r m.entries s img (entries_over i (Structural m) has) (stands_over up)
 
@@ -137,7 +138,7 @@ module _ (case : Case) (list : List Verdict) (right : AreRightSteps case list) (
         (r, subst (λ x. Represents case x r) at rep, full (subst (λ x. MayCompose case i x) (sym at) may));
   }
 
-  pub represented_over : {i : ℕ} {r : Nf} → Represents case i r → HasOver symbols (form_of r)
+  pub represented_over : {i : ℕ} {r : Nf} → Represents case i r → IsFormOver symbols (form_of r)
   represented_over (stand.over i limit h) = own_over i
   represented_over (stand.over_full i q r limit within may up h) = own_over i
   represented_over (stand.leaf i name h) = own_over i
@@ -189,7 +190,7 @@ module _ (case : Case) (list : List Verdict) (right : AreRightSteps case list) (
   plain_over (is.alien symbol h k) = tt
   plain_over {i} (is.by_clauses lists v h k l c) = clausal_over (lists_numbered case (parents_of case i) lists l) (own_rows i) (lists_over (parents_of case i) lists l) c
 
-  composed_over : (i : ℕ) (r : Nf) (composed : Composed) (places : List ℕ) → Has (judged_of case list) i (Composes composed) → HasOver symbols (form_of r)
+  composed_over : (i : ℕ) (r : Nf) (composed : Composed) (places : List ℕ) → Has (judged_of case list) i (Composes composed) → IsFormOver symbols (form_of r)
       → IsComposing r (aliens_of case i) (clause_rows (own_form case i)) places composed → IsComposedOver symbols composed
   composed_over i r composed places has w c =
       let put_by = symbol_by (aliens_of case i) places in

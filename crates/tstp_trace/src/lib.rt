@@ -9,7 +9,8 @@
 //! problem's item the source and the language don't. The names of a problem and of a trace are distinct, and a
 //! derived step has from one to eight parents, which differ, and only one where it is a negation or a Skolem
 //! step: the names of parents are collected only until there are more than eight. Formulas are those of the items.
-//! Laws for the crates above stand in `proofs/AnswerLaws` (items have one problem and one trace).
+//! Laws for the crates above stand in `proofs/AnswerLaws` (items have one problem and one trace) and, on what a
+//! problem or a trace keeps of its items, in `proofs/ProperLaws` and `proofs/KeptLaws`.
 //!
 //! The cost is linear in the items, with names and symbols looked up by hashes. Calls nest as deep as the
 //! inferences of a source.

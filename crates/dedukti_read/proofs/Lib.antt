@@ -1,0 +1,13 @@
+pub mod AnswerLaws
+pub mod CompleteReading
+pub mod MatterLaws
+pub mod PrintLaws
+pub mod PrintableLaws
+pub mod ReadSteps
+pub mod SameNames
+pub mod ScopeSteps
+pub mod SoundReading
+pub mod StepLaws
+pub mod TextLaws
+pub mod TextSteps
+pub mod TokenLaws

@@ -1,0 +1,11 @@
+pub mod Grammar
+pub mod Laws
+pub mod Machine
+pub mod Matter
+pub mod Printable
+pub mod ReadingText
+pub mod Scan
+pub mod Scopes
+pub mod Text
+pub mod TokenLists
+pub mod Tokens

@@ -1,0 +1,7 @@
+use Rattle.std.proofs.Common.{◌≡◌, ◌++◌, codes, drop}
+use Rattle.std.specs.List.{flat_map}
+use Rattle.dedukti_text.proofs.command.put_more_names.Given as goal
+
+abbrev pub invariant-loop-name : goal.invariant-loop-name
+invariant-loop-name l =
+    l.out.items ++ flat_map (λ name. codes ", " ++ name) (drop l.name-index l.names) ≡ l.initial.out.items ++ flat_map (λ name. codes ", " ++ name) l.names

@@ -4,17 +4,19 @@ use Rattle.std.specs.declared.option.Option.{Option}
 use Rattle.std.specs.declared.result.Result.{Result}
 use Rattle.dk_io.specs.Causes.{Rose}
 use Rattle.dk_io.specs.Outside.{Told}
-use Rattle.dk_cli.specs.Answer.{Answers, AnswersCommand, IsFixed, IsMemory, IsOfDevelopment, IsOfTrace, IsReadFault, IsToldOutcome, LacksFile, Refuses}
+use Rattle.dk_cli.specs.Answer.{Answers, AnswersCommand, IsFixed, IsMemory, IsOfDevelopment, IsOfMade, IsOfTrace, IsReadFault, IsToldOutcome, LacksFile, Refuses}
 use Rattle.words.specs.Commands.{Names, Text}
-use Rattle.dk_cli.specs.Commands.{AskAlike, Command, asked_of, check, convert, expansion, extract, help, steps}
-use Rattle.dk_cli.specs.Delivery.{Change, Delivers, IsNoted, IsRefused, IsUntouched}
+use Rattle.dk_cli.specs.Commands.{AskAlike, Command, asked_of, check, convert, expansion, extract, generate, help, steps}
+use Rattle.dk_cli.specs.Delivery.{Change, Delivers, IsNoted, IsRefused, IsUntouched, IsWritten}
 use Rattle.dk_cli.specs.Headline.{CanCome, CarriesOutEach, DoesOutcome, IsCarriedOut, IsDone, Lacks, NotesByStatus, RefusesWords, WritesByStatus, WritesUsage}
 use Rattle.dk_cli.specs.Refusals.{line_of, status_of, HasNumber}
 use Rattle.dk_cli.specs.declared.refusal.Refusal.{Refusal}
-use Rattle.dk_cli.specs.declared.refusal.Refusal.TheVariants.{Words, ReadFault, TooLong, TooDeep, NotLp, NotTyped, Step, WriteFault, Memory}
+use Rattle.dk_cli.specs.declared.refusal.Refusal.TheVariants.{Words, ReadFault, TooLong, TooDeep, NotDevelopment, NotTyped, Step, WriteFault, Memory}
 use Rattle.dk_cli.specs.declared.refusal.Status.{Status}
 use Rattle.dk_cli.specs.declared.refusal.StepFault.TheVariants as step_fault
 use Rattle.dk_cli.specs.declared.refusal.Status.TheVariants as status
+use Rattle.dk_cli.specs.declared.syntax.Syntax.{Syntax}
+use Rattle.dk_cli.specs.declared.syntax.Syntax.TheVariants.{Lambdapi}
 use Rattle.dk_cli.proofs.OneOutcome.{one_outcome}
 use Rattle.dk_cli.proofs.WordLaws.{alike_asked}
 
@@ -27,24 +29,31 @@ refused_status refusal result notes (inr h) = inr h.1.status
 -- ---- the statuses that can come
 
 -- that of no development
-trace_status : (names : Names) (limit : ℕ) (refusal : Refusal) → IsOfTrace refusal
-    → CanCome (convert names limit) (status_of refusal) × CanCome (steps names) (status_of refusal) × CanCome (extract names) (status_of refusal)
+trace_status : (syntax : Syntax) (names : Names) (limit : ℕ) (refusal : Refusal) → IsOfTrace refusal
+    → CanCome (convert syntax names limit) (status_of refusal) × CanCome (steps names) (status_of refusal) × CanCome (extract names) (status_of refusal)
     × CanCome (expansion names limit) (status_of refusal)
-trace_status names limit (NotLp at) h = absurd h
-trace_status names limit (NotTyped fault) h = absurd h
-trace_status names limit (Step step (step_fault.Over over)) h = (tt, tt, tt, tt)
-trace_status names limit (Step step fault) h = (tt, tt, tt, tt)
-trace_status names limit refusal h = (tt, tt, tt, tt)
+trace_status syntax names limit (NotDevelopment other at) h = absurd h
+trace_status syntax names limit (NotTyped fault) h = absurd h
+trace_status syntax names limit (Step step (step_fault.Over over)) h = (tt, tt, tt, tt)
+trace_status syntax names limit (Step step fault) h = (tt, tt, tt, tt)
+trace_status syntax names limit refusal h = (tt, tt, tt, tt)
 
 -- that of no problem and no trace
-development_status : (name : List ℕ) (refusal : Refusal) → IsOfDevelopment refusal → CanCome (check name) (status_of refusal)
-development_status name (ReadFault file) h = tt
-development_status name (TooLong file) h = tt
-development_status name (TooDeep file at) h = tt
-development_status name (NotLp at) h = tt
-development_status name (NotTyped fault) h = tt
-development_status name Memory h = tt
-development_status name refusal h = absurd h
+development_status : (syntax : Syntax) (name : List ℕ) (refusal : Refusal) → IsOfDevelopment refusal → CanCome (check syntax name) (status_of refusal)
+development_status syntax name (ReadFault file) h = tt
+development_status syntax name (TooLong file) h = tt
+development_status syntax name (TooDeep file at) h = tt
+development_status syntax name (NotDevelopment other at) h = tt
+development_status syntax name (NotTyped fault) h = tt
+development_status syntax name Memory h = tt
+development_status syntax name refusal h = absurd h
+
+-- that of no file outside
+made_status : (number : ℕ) (refusal : Refusal) → IsOfMade refusal → CanCome (generate number) (status_of refusal)
+made_status number (ReadFault file) h = absurd h
+made_status number (Step step (step_fault.Over over)) h = tt
+made_status number (Step step fault) h = tt
+made_status number refusal h = tt
 
 -- where files are read
 module _ (told : Told) (command : Command) (done : CanCome command status.Done) (cut : CanCome command status.WriteFault) (memory : CanCome command status.Memory)
@@ -79,16 +88,18 @@ help_can_come result out notes (inr w) = subst (CanCome help) (sym w.refused.sta
 
 command_can_come : (told : Told) (command : Command) (before now : ℕ) (answer : Result (List ℕ) Refusal) (result : Status) (out notes : Change)
     → AnswersCommand told command before now answer → IsFixed command answer → Delivers answer result out notes → CanCome command result
-command_can_come told (convert names limit) before now answer result out notes a f d =
-    reading_can_come told (convert names limit) tt tt tt (λ refusal h. (trace_status names limit refusal h).0) before now answer result out notes a d
+command_can_come told (convert syntax names limit) before now answer result out notes a f d =
+    reading_can_come told (convert syntax names limit) tt tt tt (λ refusal h. (trace_status syntax names limit refusal h).0) before now answer result out notes a d
 command_can_come told (steps names) before now answer result out notes a f d =
-    reading_can_come told (steps names) tt tt tt (λ refusal h. (trace_status names 0 refusal h).1) before now answer result out notes a d
+    reading_can_come told (steps names) tt tt tt (λ refusal h. (trace_status Lambdapi names 0 refusal h).1) before now answer result out notes a d
 command_can_come told (extract names) before now answer result out notes a f d =
-    reading_can_come told (extract names) tt tt tt (λ refusal h. (trace_status names 0 refusal h).2) before now answer result out notes a d
+    reading_can_come told (extract names) tt tt tt (λ refusal h. (trace_status Lambdapi names 0 refusal h).2) before now answer result out notes a d
 command_can_come told (expansion names limit) before now answer result out notes a f d =
-    reading_can_come told (expansion names limit) tt tt tt (λ refusal h. (trace_status names limit refusal h).3) before now answer result out notes a d
-command_can_come told (check name) before now answer result out notes a f d =
-    reading_can_come told (check name) tt tt tt (development_status name) before now answer result out notes a d
+    reading_can_come told (expansion names limit) tt tt tt (λ refusal h. (trace_status Lambdapi names limit refusal h).3) before now answer result out notes a d
+command_can_come told (check syntax name) before now answer result out notes a f d =
+    reading_can_come told (check syntax name) tt tt tt (development_status syntax name) before now answer result out notes a d
+command_can_come told (generate number) before now answer result out notes a f d =
+    reading_can_come told (generate number) tt tt tt (made_status number) before now answer result out notes a d
 command_can_come told help before now answer result out notes a f d = help_can_come result out notes (usage_written answer result out notes f d)
 
 pub can_come : (told : Told) (command : Option Command) (before now : ℕ) (answer : Result (List ℕ) Refusal) (result : Status) (out notes : Change)
@@ -120,12 +131,18 @@ development_before Words h = h
 development_before WriteFault h = h
 development_before refusal h = tt
 
+made_before : (refusal : Refusal) → IsOfMade refusal → ComesBeforeWriting refusal
+made_before Words h = h
+made_before WriteFault h = h
+made_before refusal h = tt
+
 before_writing : (command : Command) (refusal : Refusal) → Refuses command refusal → ComesBeforeWriting refusal
-before_writing (convert names limit) refusal h = trace_before refusal h
+before_writing (convert syntax names limit) refusal h = trace_before refusal h
 before_writing (steps names) refusal h = trace_before refusal h
 before_writing (extract names) refusal h = trace_before refusal h
 before_writing (expansion names limit) refusal h = trace_before refusal h
-before_writing (check name) refusal h = development_before refusal h
+before_writing (check syntax name) refusal h = development_before refusal h
+before_writing (generate number) refusal h = made_before refusal h
 before_writing help refusal h = absurd h
 
 -- a refusal but that of a write fault leaves the sink alone
@@ -206,13 +223,13 @@ refused_itself : (refusal : Refusal) (result : Status) (notes : Change) → resu
 refused_itself refusal result notes memory (inl r) = r
 refused_itself refusal result notes memory (inr r) = absurd (memory r.1.status)
 
-done_by : (answer : Result (List ℕ) Refusal) (result : Status) (out notes : Change) → result ≢ status.Memory
+pub done_by : (answer : Result (List ℕ) Refusal) (result : Status) (out notes : Change) → result ≢ status.Memory
     → Delivers answer result out notes → IsDone answer result out notes
 done_by (Ok text) result out notes memory d = d
 done_by (Err refusal) result out notes memory d = (d.0, refused_itself refusal result notes memory d.1)
 
 -- an answer of want of memory ends with its status
-memory_status : (answer : Result (List ℕ) Refusal) (result : Status) (out notes : Change) → IsMemory answer → Delivers answer result out notes → result ≡ status.Memory
+pub memory_status : (answer : Result (List ℕ) Refusal) (result : Status) (out notes : Change) → IsMemory answer → Delivers answer result out notes → result ≡ status.Memory
 memory_status (Ok text) result out notes m d = absurd m
 memory_status (Err Memory) result out notes m d = elim d.1 [ inl r ↦ r.status | inr r ↦ r.1.status ]
 memory_status (Err refusal) result out notes m d = absurd m
@@ -235,7 +252,7 @@ pub some_does : (told : Told) (command : Option Command) (before now : ℕ) (ans
 some_does told None before now answer result out notes a d = tt
 some_does told (Some command) before now answer result out notes a d = does told command before now answer result out notes a d
 
-whole : (answer : Result (List ℕ) Refusal) (result : Status) (out notes : Change) → ¬ Rose out.before out.now
+pub whole : (answer : Result (List ℕ) Refusal) (result : Status) (out notes : Change) → ¬ Rose out.before out.now
     → IsDone answer result out notes → IsCarriedOut answer result out notes
 whole (Ok text) result out notes still (inl w) = w
 whole (Ok text) result out notes still (inr w) = absurd (still w.rose)
@@ -312,3 +329,8 @@ pub refusal_not_done : (refusal : Refusal) (result : Status) (notes : Change)
     → IsRefused refusal result notes ⊎ (HasNumber refusal × IsRefused Memory result notes) → result ≢ status.Done
 refusal_not_done refusal result notes (inl r) done = not_done refusal (sym r.status ∙ done)
 refusal_not_done refusal result notes (inr r) done = not_done Memory (sym r.1.status ∙ done)
+
+-- a text with status 0 was written whole
+pub has_written : (text : List ℕ) (result : Status) (out notes : Change) → Delivers (Ok text) result out notes → result ≡ status.Done → IsWritten text result out notes
+has_written text result out notes (inl w) done = w
+has_written text result out notes (inr w) done = let s = sym w.refused.status ∙ done in absurd cc

@@ -2,6 +2,10 @@
 use Rattle.std.proofs.Common.{◌≡◌, ◌≢◌, ℕ, zero, suc, ◌+◌, ◌-◌, Bool, true, false, if◌then◌else◌, List, [], ◌∷◌, length, Ok, Err, None, Some, refl, sym, ◌∙◌, ap, subst}
 use Rattle.std.specs.declared.option.Option.{Option}
 use Rattle.std.specs.declared.result.Result.{Result}
+use Rattle.dedukti_read.proofs.AnswerLaws.{one_reading as one_dk_read}
+use Rattle.dedukti_read.specs.Text.{IsReadDkAnswer}
+use Rattle.dedukti_read.specs.declared.DkFault.{DkFault}
+use Rattle.dedukti_read.specs.declared.DkFault.TheVariants as dk_fault
 use Rattle.lp_exact.proofs.TreeLaws.{view_injective}
 use Rattle.lp_kernel.specs.Answering.{IsFaultOf, IsVerdict, want_of}
 use Rattle.lp_kernel.specs.Developments.{Failure, bad_goal, bad_prelude, bad_symbol, first_failure, in_goal}
@@ -22,23 +26,25 @@ use Rattle.lp_term.specs.declared.Command.{Command}
 use Rattle.lp_term.specs.declared.Dev.{Dev}
 use Rattle.lp_term.specs.declared.Lp.{Lp}
 use Rattle.dk_cli.specs.Answer.{IsOfDevelopment}
-use Rattle.dk_cli.specs.Checking.{HasVerdict, IsChecked, IsCheckedIn, IsDevelopmentIn, IsTyping, check_refusal, development_refusal, typed_text}
+use Rattle.dk_cli.specs.Checking.{HasVerdict, IsChecked, IsCheckedIn, IsDevelopmentIn, IsTyping, check_refusal, dedukti_refusal, development_refusal, typed_text}
 use Rattle.dk_cli.specs.declared.refusal.Refusal.{Refusal}
 use Rattle.dk_cli.specs.declared.refusal.Refusal.TheVariants as refusal
+use Rattle.dk_cli.specs.declared.syntax.Syntax.{Syntax}
+use Rattle.dk_cli.specs.declared.syntax.Syntax.TheVariants.{Lambdapi, Dedukti}
 use Rattle.dk_cli.proofs.Continued.{IsAfterReading}
-use Rattle.dk_cli.proofs.StageLaws.{IsOne, Only, one_of_two, one_told, only_follows, only_told}
+use Rattle.dk_cli.proofs.StageLaws.{IsOne, Only, follows_found, found_same, one_of_two, one_told, only_follows, only_told}
 
 -- ---- what is refused once the file is read
 
 abbrev pub IsOfCheck : Refusal → Type 0
-IsOfCheck (refusal.NotLp at) = Unit {0}
+IsOfCheck (refusal.NotDevelopment syntax at) = Unit {0}
 IsOfCheck (refusal.TooDeep which at) = Unit {0}
 IsOfCheck (refusal.NotTyped fault) = Unit {0}
 IsOfCheck refusal.Memory = Unit {0}
 IsOfCheck other = ⊥
 
 of_development : (why : Refusal) → IsOfCheck why → IsOfDevelopment why
-of_development (refusal.NotLp at) h = tt
+of_development (refusal.NotDevelopment syntax at) h = tt
 of_development (refusal.TooDeep which at) h = tt
 of_development (refusal.NotTyped fault) h = tt
 of_development refusal.Memory h = tt
@@ -51,6 +57,15 @@ development_told : (fault : LpFault) → IsOfCheck (development_refusal fault)
 development_told (lp_fault.NotLp at) = tt
 development_told (lp_fault.TooDeep at) = tt
 development_told lp_fault.Memory = tt
+
+dedukti_told : (fault : DkFault) → IsOfCheck (dedukti_refusal fault)
+dedukti_told (dk_fault.NotDk at) = tt
+dedukti_told (dk_fault.TooDeep at) = tt
+dedukti_told dk_fault.Memory = tt
+
+development_in_later : (syntax : Syntax) (bytes : List ℕ) (answer : Result Dev Refusal) → IsDevelopmentIn syntax bytes answer → Only IsOfCheck answer
+development_in_later Lambdapi bytes = only_told IsOfCheck development_refusal (IsReadAnswer bytes) development_told
+development_in_later Dedukti bytes = only_told IsOfCheck dedukti_refusal (IsReadDkAnswer bytes) dedukti_told
 
 check_told : (fault : CheckFault) → IsOfCheck (check_refusal fault)
 check_told (check_fault.BadPrelude command) = tt
@@ -67,9 +82,15 @@ checked_later development =
     (only_told IsOfCheck check_refusal (HasVerdict development) check_told)
     (λ typed end same. subst (Only IsOfCheck) (sym same) tt)
 
-pub checked_in_later : (bytes : List ℕ) (answer : Result (List ℕ) Refusal) → IsCheckedIn bytes answer → Only IsOfCheck answer
-checked_in_later bytes =
-    only_follows IsOfCheck (IsDevelopmentIn bytes) IsChecked (only_told IsOfCheck development_refusal (IsReadAnswer bytes) development_told) checked_later
+pub checked_in_later : (syntax : Syntax) (bytes : List ℕ) (answer : Result (List ℕ) Refusal) → IsCheckedIn syntax bytes answer → Only IsOfCheck answer
+checked_in_later syntax bytes = only_follows IsOfCheck (IsDevelopmentIn syntax bytes) IsChecked (development_in_later syntax bytes) checked_later
+
+-- what is said of an accepted development
+pub checked_says : (syntax : Syntax) (bytes said : List ℕ) → IsCheckedIn syntax bytes (Ok said) → said ≡ typed_text
+checked_says syntax bytes said h =
+    let read = follows_found (IsDevelopmentIn syntax bytes) IsChecked said h in
+    let typed = follows_found (IsTyping read.0) (λ typed end. end ≡ Ok typed_text) said read.2 in
+    found_same {F = Refusal} said typed_text typed.2
 
 -- ---- bytes are read in one way
 
@@ -216,8 +237,9 @@ one_verdict failure (Err one) (Err other) h k not_one not_other =
 
 -- ---- the stages
 
-one_development : (bytes : List ℕ) → IsOne refusal.Memory (IsDevelopmentIn bytes)
-one_development bytes = one_told development_refusal lp_fault.Memory (λ fault e. ap development_refusal e) (IsReadAnswer bytes) (one_read bytes)
+one_development : (syntax : Syntax) (bytes : List ℕ) → IsOne refusal.Memory (IsDevelopmentIn syntax bytes)
+one_development Lambdapi bytes = one_told development_refusal lp_fault.Memory (λ fault e. ap development_refusal e) (IsReadAnswer bytes) (one_read bytes)
+one_development Dedukti bytes = one_told dedukti_refusal dk_fault.Memory (λ fault e. ap dedukti_refusal e) (IsReadDkAnswer bytes) (one_dk_read bytes)
 
 one_typing : (development : Dev) → IsOne refusal.Memory (IsTyping development)
 one_typing development =
@@ -227,5 +249,5 @@ one_checked : (development : Dev) → IsOne refusal.Memory (IsChecked developmen
 one_checked development =
     one_of_two (IsTyping development) (λ typed end. end ≡ Ok typed_text) (one_typing development) (λ typed one other h k not_one not_other. h ∙ sym k)
 
-pub one_checked_in : (bytes : List ℕ) → IsOne refusal.Memory (IsCheckedIn bytes)
-one_checked_in bytes = one_of_two (IsDevelopmentIn bytes) IsChecked (one_development bytes) one_checked
+pub one_checked_in : (syntax : Syntax) (bytes : List ℕ) → IsOne refusal.Memory (IsCheckedIn syntax bytes)
+one_checked_in syntax bytes = one_of_two (IsDevelopmentIn syntax bytes) IsChecked (one_development syntax bytes) one_checked

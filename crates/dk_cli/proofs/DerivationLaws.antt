@@ -53,7 +53,7 @@ abbrev pub IsLater : Refusal → Type 0
 IsLater refusal.Words = ⊥
 IsLater (refusal.ReadFault which) = ⊥
 IsLater refusal.WriteFault = ⊥
-IsLater (refusal.NotLp at) = ⊥
+IsLater (refusal.NotDevelopment syntax at) = ⊥
 IsLater (refusal.NotTyped fault) = ⊥
 IsLater other = Unit {0}
 
@@ -111,7 +111,7 @@ derivation_later problem trace =
 pub of_trace : (why : Refusal) → IsLater why → IsOfTrace why
 of_trace refusal.Words h = absurd h
 of_trace refusal.WriteFault h = absurd h
-of_trace (refusal.NotLp at) h = absurd h
+of_trace (refusal.NotDevelopment syntax at) h = absurd h
 of_trace (refusal.NotTyped fault) h = absurd h
 of_trace other h = tt
 

@@ -17,7 +17,7 @@ use Rattle.dk_cli.specs.declared.refusal.Refusal.{Refusal}
 use Rattle.dk_cli.specs.declared.refusal.Status.{Status}
 use Rattle.dk_cli.specs.declared.refusal.Status.TheVariants as status
 use Rattle.dk_cli.specs.declared.derivation.Derivation.{Derivation}
-use Rattle.dk_cli.proofs.Carried.{refusal_not_done}
+use Rattle.dk_cli.proofs.Carried.{has_written, refusal_not_done}
 use Rattle.dk_cli.proofs.DerivationLaws.{IsLater}
 use Rattle.dk_cli.proofs.PlanningLaws.{plan_found, plan_later}
 use Rattle.dk_cli.proofs.StageLaws.{Only, follows_found, found_same, only_follows}
@@ -42,8 +42,7 @@ module _ (told : Told) (names : Names) (limit before now : ℕ) where
 
   expands : (answer : Result (List ℕ) Refusal) (result : Status) (out notes : Change)
       → AnswersCommand told (expansion names limit) before now answer → Delivers answer result out notes → result ≡ status.Done → WritesReport told names limit out
-  expands (Ok text) result out notes a (inl w) done = writes_text told text out (told_text text a) w.bytes
-  expands (Ok text) result out notes a (inr w) done = let s = sym w.refused.status ∙ done in absurd cc
+  expands (Ok text) result out notes a d done = writes_text told text out (told_text text a) (has_written text result out notes d done).bytes
   expands (Err refusal) result out notes a d done = absurd (refusal_not_done refusal result notes d.1 done)
 
 -- status 0 of `expansion` comes with the report

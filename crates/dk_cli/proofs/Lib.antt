@@ -7,6 +7,7 @@ pub mod DerivationLaws
 pub mod Derived
 pub mod Expanded
 pub mod Extracted
+pub mod GenerationLaws
 pub mod JudgingLaws
 pub mod OneFile
 pub mod LeftOut
@@ -23,6 +24,7 @@ pub mod ReadBack
 pub mod ReadDerivations
 pub mod Reported
 pub mod StageLaws
+pub mod Summed
 pub mod Unread
 pub mod WeightLaws
 pub mod WordLaws

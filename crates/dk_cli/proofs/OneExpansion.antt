@@ -24,4 +24,4 @@ module _ (roots : RootsAreWellFormed) (limit : ℕ) (d : Derivation) (acyclic : 
   pub one_expanded : IsOne Memory (IsExpanded limit d)
   one_expanded =
       one_of_refusing (IsPlanOf limit d) (λ plan end. end ≡ Ok (report_text d.trace.steps plan)) (plan_refuses limit d acyclic)
-      (λ x y found another one other h k. h ∙ ap Ok (report_same x y (plan_found limit d x found) (plan_found limit d y another)) ∙ sym k)
+      (λ x y found another one other h k not_one not_other. h ∙ ap Ok (report_same x y (plan_found limit d x found) (plan_found limit d y another)) ∙ sym k)

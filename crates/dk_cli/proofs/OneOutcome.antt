@@ -14,24 +14,29 @@ use Rattle.tstp_trace.specs.declared.Trace.{Trace}
 use Rattle.tstp_trace.specs.declared.TraceFault.TheVariants as trace_fault
 use Rattle.dk_cli.specs.Checking.{IsCheckedIn}
 use Rattle.words.specs.Commands.{Names}
-use Rattle.dk_cli.specs.Commands.{Command, check, convert, expansion, extract, help, steps}
+use Rattle.dk_cli.specs.Commands.{Command, check, convert, expansion, extract, generate, help, steps}
 use Rattle.dk_cli.specs.Conversion.{IsDeveloped}
 use Rattle.dk_cli.specs.Derivations.{IsDerivationAt, IsDerivationIn, IsDerivedBy, IsFile, IsGraphIn, IsProblemIn, IsText, IsTraceIn, derivation, graph_refusal, problem_refusal, text_refusal, trace_refusal}
 use Rattle.dk_cli.specs.Outcome.{IsGiven, IsOutcome}
 use Rattle.dk_cli.specs.Expansion.{IsExpanded}
 use Rattle.dk_cli.specs.Extraction.{IsExtracted}
+use Rattle.dk_cli.specs.Generation.{IsGenerated, IsSummed}
+use Rattle.generator.specs.Files.{problem_text, trace_text}
 use Rattle.dk_cli.specs.StepReport.{IsReported}
 use Rattle.dk_cli.specs.Stages.{Follows, IsToldBy}
+use Rattle.dk_cli.specs.declared.derivation.Derivation.{Derivation}
 use Rattle.dk_cli.specs.declared.refusal.File.{File}
 use Rattle.dk_cli.specs.declared.refusal.File.TheVariants as file
 use Rattle.dk_cli.specs.declared.refusal.Refusal.{Refusal}
 use Rattle.dk_cli.specs.declared.refusal.Refusal.TheVariants as refusal
+use Rattle.dk_cli.specs.declared.syntax.Syntax.{Syntax}
 use Rattle.step_check.specs.Steps.{nodes_of}
 use Rattle.dk_cli.proofs.CheckLaws.{one_checked_in}
 use Rattle.dk_cli.proofs.ConversionLaws.{one_developed}
+use Rattle.dk_cli.proofs.GenerationLaws.{one_summed}
 use Rattle.dk_cli.proofs.JudgingLaws.{one_reported}
 use Rattle.dk_cli.proofs.OneExpansion.{one_expanded}
-use Rattle.dk_cli.proofs.ReadDerivations.{read_acyclic, read_formed, read_symbols}
+use Rattle.dk_cli.proofs.ReadDerivations.{IsRead, bytes_read, derivation_read, read_acyclic, read_formed, read_symbols}
 use Rattle.plan_symbols.proofs.NoOthers.{roots_are_well_formed}
 use Rattle.dk_cli.proofs.StageLaws.{IsOne, one_of_found, one_of_two, one_told}
 use Rattle.tptp_text.proofs.TextLaws.{one_reading}
@@ -82,18 +87,35 @@ one_derivation names files =
 
 -- ---- the whole
 
+module _ (found other : Option (List ℕ)) (d : Derivation) (read : IsRead found other d) where
+  one_developed_of : (syntax : Syntax) (limit : ℕ) → IsOne refusal.Memory (IsDeveloped syntax limit d)
+  one_developed_of syntax limit = one_developed roots_are_well_formed syntax limit d (read_acyclic found other d read) (read_symbols found other d read) (read_formed found other d read)
+
+  one_expanded_of : (limit : ℕ) → IsOne refusal.Memory (IsExpanded limit d)
+  one_expanded_of limit = one_expanded roots_are_well_formed limit d (read_acyclic found other d read) (read_symbols found other d read) (read_formed found other d read)
+
+  one_summed_of : (number : ℕ) → IsOne refusal.Memory (IsSummed number d)
+  one_summed_of number = one_summed roots_are_well_formed number d (read_acyclic found other d read) (read_symbols found other d read) (read_formed found other d read)
+
+-- what the family's member of a number gives
+pub one_generated : (number : ℕ) → IsOne refusal.Memory (IsGenerated number)
+one_generated number =
+    let problem = problem_text number in
+    let trace = trace_text number in
+    one_of_found (IsDerivationIn problem trace) (IsSummed number) (one_derivation_in problem trace)
+    (λ d read. one_summed_of (Some problem) (Some trace) d (bytes_read problem trace d read) number)
+
 one_given : (command : Command) (files : List ℕ → Option (List ℕ)) → IsOne refusal.Memory (IsGiven command files)
-one_given (convert names limit) files =
-    one_of_found (IsDerivationAt names files) (IsDeveloped limit) (one_derivation names files)
-    (λ d read. one_developed roots_are_well_formed limit d (read_acyclic (files names.problem) (files names.trace) d read)
-    (read_symbols (files names.problem) (files names.trace) d read) (read_formed (files names.problem) (files names.trace) d read))
+one_given (convert syntax names limit) files =
+    one_of_found (IsDerivationAt names files) (IsDeveloped syntax limit) (one_derivation names files)
+    (λ d read. one_developed_of (files names.problem) (files names.trace) d (derivation_read (files names.problem) (files names.trace) d read) syntax limit)
 one_given (steps names) files = one_of_two (IsDerivationAt names files) IsReported (one_derivation names files) one_reported
 one_given (extract names) files = one_of_two (IsDerivationAt names files) IsExtracted (one_derivation names files) (λ d one other h k not_one not_other. h ∙ sym k)
 one_given (expansion names limit) files =
     one_of_found (IsDerivationAt names files) (IsExpanded limit) (one_derivation names files)
-    (λ d read. one_expanded roots_are_well_formed limit d (read_acyclic (files names.problem) (files names.trace) d read)
-    (read_symbols (files names.problem) (files names.trace) d read) (read_formed (files names.problem) (files names.trace) d read))
-one_given (check name) files = one_of_two (IsFile file.Development (files name)) IsCheckedIn (one_file file.Development (files name)) one_checked_in
+    (λ d read. one_expanded_of (files names.problem) (files names.trace) d (derivation_read (files names.problem) (files names.trace) d read) limit)
+one_given (check syntax name) files = one_of_two (IsFile file.Development (files name)) (IsCheckedIn syntax) (one_file file.Development (files name)) (one_checked_in syntax)
+one_given (generate number) files = one_generated number
 one_given help files = λ one other h k not_one not_other. h ∙ sym k
 
 pub one_outcome : (command : Command) (files : List ℕ → Option (List ℕ)) (one other : Result (List ℕ) Refusal) → IsOutcome command files one → IsOutcome command files other → one ≡ other

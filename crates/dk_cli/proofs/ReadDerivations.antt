@@ -1,5 +1,5 @@
 -- What a derivation holds that was read from two files.
-use Rattle.std.proofs.Common.{◌≡◌, ℕ, zero, suc, ◌<◌, List, length, get_or, Ok, None, Some, sym, ap, subst}
+use Rattle.std.proofs.Common.{◌≡◌, ℕ, zero, suc, ◌<◌, List, length, get_or, Ok, None, Some, refl, sym, ap, subst}
 use Rattle.std.proofs.lemmas.List.Elements.{All-get_or}
 use Rattle.std.proofs.lemmas.Option.{get_or_from_slice_get, slice_get_within}
 use Rattle.std.proofs.lemmas.List.{map-append}
@@ -53,19 +53,24 @@ read_same : (found other : Option (List ℕ)) (d : Derivation) (bytes others : L
 read_same found other d bytes others problem trace graph is other_is spelled traced graphed same =
     subst (IsRead found other) (sym same) record { bytes = bytes; is = is; spelled = spelled; others = others; other_is = other_is; traced = traced; graphed = graphed }
 
+pub bytes_read : (bytes others : List ℕ) (d : Derivation) → IsDerivationIn bytes others (Ok d) → IsRead (Some bytes) (Some others) d
+bytes_read bytes others d h =
+    let spelled = follows_found (IsProblemIn bytes) (λ problem. Follows (IsTraceIn others) (IsDerivedBy problem)) d h in
+    let traced = follows_found (IsTraceIn others) (IsDerivedBy spelled.0) d spelled.2 in
+    let graphed = follows_found (IsGraphIn traced.0) (λ graph end. end ≡ Ok (derivation spelled.0 traced.0 graph)) d traced.2 in
+    read_same (Some bytes) (Some others) d bytes others spelled.0 traced.0 graphed.0 refl refl
+    spelled.1 traced.1 graphed.1 (found_same {F = Refusal} d (derivation spelled.0 traced.0 graphed.0) graphed.2)
+
 pub derivation_read : (found other : Option (List ℕ)) (d : Derivation) → IsDerivationOf found other (Ok d) → IsRead found other d
 derivation_read found other d h =
     let first = follows_found (IsFile file.Problem found) (λ bytes. Follows (IsFile file.Trace other) (IsDerivationIn bytes)) d h in
     let second = follows_found (IsFile file.Trace other) (IsDerivationIn first.0) d first.2 in
-    let third = follows_found (IsProblemIn first.0) (λ problem. Follows (IsTraceIn second.0) (IsDerivedBy problem)) d second.2 in
-    let fourth = follows_found (IsTraceIn second.0) (IsDerivedBy third.0) d third.2 in
-    let fifth = follows_found (IsGraphIn fourth.0) (λ graph end. end ≡ Ok (derivation third.0 fourth.0 graph)) d fourth.2 in
-    read_same found other d first.0 second.0 third.0 fourth.0 fifth.0 (file_found file.Problem found first.0 first.1) (file_found file.Trace other second.0 second.1)
-    third.1 fourth.1 fifth.1 (found_same {F = Refusal} d (derivation third.0 fourth.0 fifth.0) fifth.2)
+    subst (λ f. IsRead f other d) (sym (file_found file.Problem found first.0 first.1))
+    (subst (λ o. IsRead (Some first.0) o d) (sym (file_found file.Trace other second.0 second.1)) (bytes_read first.0 second.0 d second.2))
 
 -- no step of it is on a cycle
-pub read_acyclic : (found other : Option (List ℕ)) (d : Derivation) → IsDerivationOf found other (Ok d) → HasNoCycle d.graph.parents
-read_acyclic found other d h = let read = derivation_read found other d h in graph_acyclic d.trace d.graph (graph_given d.trace d.graph read.graphed)
+pub read_acyclic : (found other : Option (List ℕ)) (d : Derivation) → IsRead found other d → HasNoCycle d.graph.parents
+read_acyclic found other d read = graph_acyclic d.trace d.graph (graph_given d.trace d.graph read.graphed)
 
 -- ---- what holds of what was read
 
@@ -105,14 +110,14 @@ steps_well_formed steps proper (suc place) step is =
     let there : get_or steps place step ≡ step = get_or_from_slice_get steps place step step is in
     (subst (λ (s : Step). IsProper s.formula) there (All-get_or (λ (s : Step). IsProper s.formula) steps place step below proper)).well_formed
 
-pub read_symbols : (found other : Option (List ℕ)) (d : Derivation) → IsDerivationOf found other (Ok d) → HasItsSymbols d.problem
-read_symbols found other d h = let read = derivation_read found other d h in problem_has_symbols read.bytes d.problem read.spelled
+pub read_symbols : (found other : Option (List ℕ)) (d : Derivation) → IsRead found other d → HasItsSymbols d.problem
+read_symbols found other d read = problem_has_symbols read.bytes d.problem read.spelled
 
 steps_are_formed : (bytes : List ℕ) (trace : Trace) → IsTraceIn bytes (Ok trace) → AreWellFormed trace.steps
 steps_are_formed bytes trace h = steps_well_formed trace.steps (trace_is_proper bytes trace h)
 
-pub read_formed : (found other : Option (List ℕ)) (d : Derivation) → IsDerivationOf found other (Ok d) → AreWellFormed d.trace.steps
-read_formed found other d h = let read = derivation_read found other d h in steps_are_formed read.others d.trace read.traced
+pub read_formed : (found other : Option (List ℕ)) (d : Derivation) → IsRead found other d → AreWellFormed d.trace.steps
+read_formed found other d read = steps_are_formed read.others d.trace read.traced
 
 pub are_read : (bytes others : List ℕ) (problem : Problem) (trace : Trace) → IsProblemIn bytes (Ok problem) → IsTraceIn others (Ok trace) → AreRead problem trace
 are_read bytes others problem trace spelled traced = record {

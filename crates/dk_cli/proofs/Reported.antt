@@ -15,7 +15,7 @@ use Rattle.dk_cli.specs.StepReport.{IsReported, WritesLines}
 use Rattle.dk_cli.specs.declared.refusal.Refusal.{Refusal}
 use Rattle.dk_cli.specs.declared.refusal.Status.{Status}
 use Rattle.dk_cli.specs.declared.refusal.Status.TheVariants as status
-use Rattle.dk_cli.proofs.Carried.{refusal_not_done}
+use Rattle.dk_cli.proofs.Carried.{has_written, refusal_not_done}
 use Rattle.dk_cli.proofs.StageLaws.{follows_found, found_same}
 
 module _ (told : Told) (names : Names) (before now : ℕ) where
@@ -33,8 +33,7 @@ module _ (told : Told) (names : Names) (before now : ℕ) where
 
   reports : (answer : Result (List ℕ) Refusal) (result : Status) (out notes : Change)
       → AnswersCommand told (steps names) before now answer → Delivers answer result out notes → result ≡ status.Done → WritesLines told names out
-  reports (Ok text) result out notes a (inl w) done = writes_text told text out (told_text text a) w.bytes
-  reports (Ok text) result out notes a (inr w) done = let s = sym w.refused.status ∙ done in absurd cc
+  reports (Ok text) result out notes a d done = writes_text told text out (told_text text a) (has_written text result out notes d done).bytes
   reports (Err refusal) result out notes a d done = absurd (refusal_not_done refusal result notes d.1 done)
 
 -- status 0 of `steps` comes with the lines

@@ -102,19 +102,21 @@ module _ {A B : Type 0} (First : Result A Refusal → Type 0) (Next : A → Resu
       first_unique first second h i (first_definite first one k not_one) (first_definite second other j not_other) in
       refusing_continued next first one other h k (subst (λ x. Continues Next x other) (sym same) j) not_one not_other
 
-  any_continued : ((x y : A) → First (Ok x) → First (Ok y) → (one other : Result B Refusal) → Next x one → Next y other → one ≡ other)
-      → (first second : Result A Refusal) (one other : Result B Refusal) → First first → First second → AreSame first second
-      → Continues Next first one → Continues Next second other → one ≡ other
-  any_continued each (Ok x) (Ok y) one other h i same k j = each x y h i one other k j
-  any_continued each (Ok x) (Err why) one other h i same k j = absurd same
-  any_continued each (Err why) (Ok y) one other h i same k j = absurd same
-  any_continued each (Err why) (Err another) one other h i same k j = k ∙ ap Err same ∙ sym j
+  -- what the next stage finds from the one or the other is one
+  abbrev pub AreAlike : Type 0
+  AreAlike = (x y : A) → First (Ok x) → First (Ok y) → (one other : Result B Refusal) → Next x one → Next y other → one ≢ Err Memory → other ≢ Err Memory → one ≡ other
+
+  any_continued : AreAlike → (first second : Result A Refusal) (one other : Result B Refusal) → First first → First second → AreSame first second
+      → Continues Next first one → Continues Next second other → one ≢ Err Memory → other ≢ Err Memory → one ≡ other
+  any_continued each (Ok x) (Ok y) one other h i same k j not_one not_other = each x y h i one other k j not_one not_other
+  any_continued each (Ok x) (Err why) one other h i same k j not_one not_other = absurd same
+  any_continued each (Err why) (Ok y) one other h i same k j not_one not_other = absurd same
+  any_continued each (Err why) (Err another) one other h i same k j not_one not_other = k ∙ ap Err same ∙ sym j
 
   -- what the first stage finds may be several things that give the next one's answer alike
-  pub one_of_refusing : RefusesOne First → ((x y : A) → First (Ok x) → First (Ok y) → (one other : Result B Refusal) → Next x one → Next y other → one ≡ other)
-      → IsOne Memory (Follows First Next)
+  pub one_of_refusing : RefusesOne First → AreAlike → IsOne Memory (Follows First Next)
   one_of_refusing refuses each one other (first, h, k) (second, i, j) not_one not_other =
-      any_continued each first second one other h i (refuses first second h i (first_definite first one k not_one) (first_definite second other j not_other)) k j
+      any_continued each first second one other h i (refuses first second h i (first_definite first one k not_one) (first_definite second other j not_other)) k j not_one not_other
 
   pub one_of_two : IsOne Memory First → ((x : A) → IsOne Memory (Next x)) → IsOne Memory (Follows First Next)
   one_of_two first_unique next_unique = one_of_found first_unique (λ x found. next_unique x)

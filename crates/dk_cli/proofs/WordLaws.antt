@@ -6,8 +6,8 @@ use Rattle.std.specs.Str.Parse.{digits_value}
 use Rattle.std.proofs.lemmas.Bool.Decides.{nat_tests}
 use Rattle.words.specs.Commands.{Names, Text, Command as Words}
 use Rattle.words.specs.Commands as words
-use Rattle.words.specs.Reading.{Files, Given, asks_command, checking, command_of, command_on, converting, expanding, extracting, file_in, files_in, files_of, files_on, generating, given_of, help_on, is_command, is_number, limit_and_workers, limit_of, number_to, only_workers, stepping, task_in, workers_of}
-use Rattle.dk_cli.specs.Commands.{AreAlike, AskAlike, asked_of, built}
+use Rattle.words.specs.Reading.{Files, Given, Task, asks_command, checking, checking_dedukti, command_of, command_on, converting, converting_to_dedukti, expanding, extracting, file_in, files_in, files_of, files_on, generating, given_of, help_on, is_command, is_number, limit_and_workers, limit_of, number_to, only_workers, sole_name, stepping, task_in, task_of, workers_of}
+use Rattle.dk_cli.specs.Commands.{AreAlike, AskAlike, asked_of, without_workers}
 use Rattle.dk_cli.specs.Views.{AsksWorkers}
 
 -- ---- some worker
@@ -48,6 +48,25 @@ module _ (make : Files → Words) (makes : (files : Files) → 0 < files.workers
   made_workers None h = tt
   made_workers (Some files) h = makes files h
 
+-- what `generate` is given has some too
+named_task : (workers : ℕ) (number : Option ℕ) → 0 < workers
+    → IfSome (option_map (λ n. let task : Task = record { number = n; workers = workers } in task) number) (λ (task : Task). 0 < task.workers)
+named_task workers None h = tt
+named_task workers (Some n) h = h
+
+task_workers : (workers number : Option ℕ) → IfSome workers (λ k. 0 < k)
+    → IfSome (option_and_then (λ workers. option_map (λ n. let task : Task = record { number = n; workers = workers } in task) number) workers) (λ (task : Task). 0 < task.workers)
+task_workers None number h = tt
+task_workers (Some workers) number h = named_task workers number h
+
+given_task : (given : Option Given) → IfSome (option_and_then task_of given) (λ (task : Task). 0 < task.workers)
+given_task None = tt
+given_task (Some given) = task_workers (workers_of given.workers) (option_and_then (number_to 500) (sole_name given.names)) (workers_positive given.workers)
+
+made_task : (found : Option Task) → IfSome found (λ (task : Task). 0 < task.workers) → IfSome (option_map (λ (task : Task). words.generate task.number task.workers) found) AsksWorkers
+made_task None h = tt
+made_task (Some task) h = h
+
 any_workers : {A : Type 0} (make : A → Words) (makes : (a : A) → AsksWorkers (make a)) (found : Option A) → IfSome (option_map make found) AsksWorkers
 any_workers make makes None = tt
 any_workers make makes (Some a) = makes a
@@ -77,8 +96,12 @@ command_workers word rest =
     (either_way Fine (bytes_eq word (codes "check")) (checking rest) _
     (any_workers words.check (λ file. tt) (file_in rest))
     (either_way Fine (bytes_eq word (codes "generate")) (generating rest) _
-    (any_workers _ (λ task. tt) (task_in rest))
-    (either_way Fine (bytes_eq word (codes "--help")) (help_on rest) None (help_workers rest) tt))))))
+    (made_task (task_in rest) (given_task (given_of only_workers rest)))
+    (either_way Fine (bytes_eq word (codes "dedukti")) (converting_to_dedukti rest) _
+    (made_workers (λ files. words.dedukti files.names files.limit files.workers) (λ files h. h) three (given_workers (given_of limit_and_workers rest)))
+    (either_way Fine (bytes_eq word (codes "dkcheck")) (checking_dedukti rest) _
+    (any_workers words.dkcheck (λ file. tt) (file_in rest))
+    (either_way Fine (bytes_eq word (codes "--help")) (help_on rest) None (help_workers rest) tt))))))))
 
 some_workers : (line : List Text) → IfSome (command_of line) AsksWorkers
 some_workers [] = tt
@@ -121,8 +144,12 @@ command_no_help word rest is =
     (made_no_help (λ (files : Files). words.expansion files.names files.limit files.workers) (λ files. tt) (files_in limit_and_workers rest))
     (λ check_or. tested Fine (bytes_eq word (codes "check")) _ (checking rest) _ check_or
     (made_no_help words.check (λ file. tt) (file_in rest))
-    (λ generate_is. last_tested Fine (bytes_eq word (codes "generate")) (generating rest) _ generate_is
-    (made_no_help _ (λ task. tt) (task_in rest)))))))
+    (λ generate_or. tested Fine (bytes_eq word (codes "generate")) _ (generating rest) _ generate_or
+    (made_no_help _ (λ task. tt) (task_in rest))
+    (λ dedukti_or. tested Fine (bytes_eq word (codes "dedukti")) _ (converting_to_dedukti rest) _ dedukti_or
+    (made_no_help (λ (files : Files). words.dedukti files.names files.limit files.workers) (λ files. tt) (files_in limit_and_workers rest))
+    (λ dkcheck_is. last_tested Fine (bytes_eq word (codes "dkcheck")) (checking_dedukti rest) _ dkcheck_is
+    (made_no_help words.dkcheck (λ file. tt) (file_in rest)))))))))
 
 no_help : (line : List Text) → asks_command line ≡ true → IfSome (command_of line) IsNoHelp
 no_help [] e = tt
@@ -133,16 +160,18 @@ help_takes_none line asks is = subst (λ c. IfSome c IsNoHelp) is (no_help line 
 
 -- ---- numbers of workers
 
-one_built : (one two : Words) → AreAlike one two → built two ≡ built one
-one_built (words.convert names limit workers) two h = ap built h.1
-one_built (words.steps names workers) two h = ap built h.1
-one_built (words.extract names workers) two h = ap built h.1
-one_built (words.expansion names limit workers) two h = ap built h.1
-one_built (words.check file) two h = ap built h
-one_built (words.generate made workers) two h = ap built h.1
-one_built words.help two h = ap built h
+one_asked : (one two : Words) → AreAlike one two → without_workers two ≡ without_workers one
+one_asked (words.convert names limit workers) two h = ap without_workers h.1
+one_asked (words.steps names workers) two h = ap without_workers h.1
+one_asked (words.extract names workers) two h = ap without_workers h.1
+one_asked (words.expansion names limit workers) two h = ap without_workers h.1
+one_asked (words.check file) two h = ap without_workers h
+one_asked (words.generate made workers) two h = ap without_workers h.1
+one_asked (words.dedukti names limit workers) two h = ap without_workers h.1
+one_asked (words.dkcheck file) two h = ap without_workers h
+one_asked words.help two h = ap without_workers h
 
 -- lines that differ in the number of workers ask for the same
 pub alike_asked : (line other : List Text) → AskAlike line other → asked_of other ≡ asked_of line
 alike_asked line other h =
-    ap (option_and_then built) h.second ∙ one_built h.one h.two h.alike ∙ sym (ap (option_and_then built) h.first)
+    ap (option_map without_workers) h.second ∙ ap Some (one_asked h.one h.two h.alike) ∙ sym (ap (option_map without_workers) h.first)

@@ -5,11 +5,13 @@ use Rattle.std.specs.declared.result.Result.{Result}
 use Rattle.dk_io.specs.Causes.{Rose}
 use Rattle.dk_io.specs.Outside.{Told, IsAbsent, Tells}
 use Rattle.words.specs.Usage.{usage_text}
-use Rattle.dk_cli.specs.Commands.{Command, check, convert, expansion, extract, files_of, help, steps}
+use Rattle.dk_cli.specs.Commands.{Command, check, convert, expansion, extract, files_of, generate, help, steps}
 use Rattle.dk_cli.specs.Derivations.{byte_limit}
+use Rattle.dk_cli.specs.Generation.{IsGenerated}
 use Rattle.dk_cli.specs.Outcome.{IsOutcome}
+use Rattle.dk_cli.specs.Stages.{Answered}
 use Rattle.dk_cli.specs.declared.refusal.Refusal.{Refusal}
-use Rattle.dk_cli.specs.declared.refusal.Refusal.TheVariants.{Words, ReadFault, TooLong, TooDeep, NotLp, NotTyped, WriteFault, Memory}
+use Rattle.dk_cli.specs.declared.refusal.Refusal.TheVariants.{Words, ReadFault, TooLong, TooDeep, NotDevelopment, NotTyped, WriteFault, Memory}
 
 -- One of the files is absent. Each is read only where those before it were read whole.
 abbrev pub LacksOneOf : Told → List (List ℕ) → Type 0
@@ -42,7 +44,7 @@ IsToldOutcome told command answer = IsTold told (IsOutcome command) answer
 abbrev pub IsOfTrace : Refusal → Type 0
 IsOfTrace Words = ⊥
 IsOfTrace WriteFault = ⊥
-IsOfTrace (NotLp at) = ⊥
+IsOfTrace (NotDevelopment syntax at) = ⊥
 IsOfTrace (NotTyped fault) = ⊥
 IsOfTrace refusal = Unit {0}
 
@@ -51,18 +53,26 @@ abbrev pub IsOfDevelopment : Refusal → Type 0
 IsOfDevelopment (ReadFault file) = Unit {0}
 IsOfDevelopment (TooLong file) = Unit {0}
 IsOfDevelopment (TooDeep file at) = Unit {0}
-IsOfDevelopment (NotLp at) = Unit {0}
+IsOfDevelopment (NotDevelopment syntax at) = Unit {0}
 IsOfDevelopment (NotTyped fault) = Unit {0}
 IsOfDevelopment Memory = Unit {0}
 IsOfDevelopment refusal = ⊥
 
+-- What `generate` refuses before anything is written: nothing that is said of words and of files outside.
+abbrev pub IsOfMade : Refusal → Type 0
+IsOfMade Words = ⊥
+IsOfMade (ReadFault file) = ⊥
+IsOfMade WriteFault = ⊥
+IsOfMade refusal = Unit {0}
+
 -- What a command refuses before anything is written.
 abbrev pub Refuses : Command → Refusal → Type 0
-Refuses (convert names limit) refusal = IsOfTrace refusal
+Refuses (convert syntax names limit) refusal = IsOfTrace refusal
 Refuses (steps names) refusal = IsOfTrace refusal
 Refuses (extract names) refusal = IsOfTrace refusal
 Refuses (expansion names limit) refusal = IsOfTrace refusal
-Refuses (check name) refusal = IsOfDevelopment refusal
+Refuses (check syntax name) refusal = IsOfDevelopment refusal
+Refuses (generate number) refusal = IsOfMade refusal
 Refuses help refusal = ⊥
 
 -- The answer to what reads files, of which one lacks or not, and refuses such things, by the counts of the inputs
@@ -79,9 +89,11 @@ pub record IsAnswer {A : Type 0} (Lacks : Type 0) (Can : Refusal → Type 0) (Is
 abbrev pub AnswersCommand : Told → Command → ℕ → ℕ → Result (List ℕ) Refusal → Type 0
 AnswersCommand told command before now answer = IsAnswer (LacksFile told command) (Refuses command) (IsToldOutcome told command) before now answer
 
--- What is answered where no file is read, whether or not the inputs tell theirs: the usage text.
+-- What is answered where no file is read, whether or not the inputs tell theirs: the usage text, or what the files that are
+-- made give, unless memory ran out.
 abbrev pub IsFixed : Command → Result (List ℕ) Refusal → Type 0
 IsFixed help answer = answer ≡ Ok usage_text
+IsFixed (generate number) answer = Answered (IsGenerated number) answer
 IsFixed command answer = Unit {0}
 
 -- The answer to the words, which ask for a command or for none.

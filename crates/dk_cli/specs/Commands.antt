@@ -1,44 +1,50 @@
 -- What the words of a command line ask for, as far as the outcome depends on it.
-use Rattle.std.specs.Prelude.{◌≡◌, ℕ, List, [], ◌∷◌, None, Some, option_and_then}
+use Rattle.std.specs.Prelude.{◌≡◌, ℕ, List, [], ◌∷◌, None, Some, option_map}
 use Rattle.std.specs.declared.option.Option.{Option}
 use Rattle.words.specs.Commands.{Names, Text, Command as Words}
 use Rattle.words.specs.Commands as words
 use Rattle.words.specs.Reading.{command_of}
+use Rattle.dk_cli.specs.declared.syntax.Syntax.{Syntax}
+use Rattle.dk_cli.specs.declared.syntax.Syntax.TheVariants.{Lambdapi, Dedukti}
 
--- A command that is built, with its files and the limit on the weight, or the usage text. No number of workers stands
--- here.
+-- A command with its syntax, its files and the limit on the weight, or with the number that it is given; or the usage text.
+-- No number of workers stands here. `dedukti` and `dkcheck` are `convert` and `check` in the other syntax.
 pub data Command : Type 0 where
-  convert : Names → ℕ → Command
+  convert : Syntax → Names → ℕ → Command
   steps : Names → Command
   extract : Names → Command
   expansion : Names → ℕ → Command
-  check : Text → Command
+  check : Syntax → Text → Command
+  generate : ℕ → Command
   help : Command
 
--- What the words of a command ask for, where it is built.
-abbrev pub built : Words → Option Command
-built (words.convert names limit workers) = Some (convert names limit)
-built (words.steps names workers) = Some (steps names)
-built (words.extract names workers) = Some (extract names)
-built (words.expansion names limit workers) = Some (expansion names limit)
-built (words.check file) = Some (check file)
-built (words.generate number workers) = None
-built words.help = Some help
+-- What the words of a command ask for.
+abbrev pub without_workers : Words → Command
+without_workers (words.convert names limit workers) = convert Lambdapi names limit
+without_workers (words.steps names workers) = steps names
+without_workers (words.extract names workers) = extract names
+without_workers (words.expansion names limit workers) = expansion names limit
+without_workers (words.check file) = check Lambdapi file
+without_workers (words.generate number workers) = generate number
+without_workers (words.dedukti names limit workers) = convert Dedukti names limit
+without_workers (words.dkcheck file) = check Dedukti file
+without_workers words.help = help
 
 -- What the words ask for, if anything.
 abbrev pub asked_of : List Text → Option Command
-asked_of line = option_and_then built (command_of line)
+asked_of line = option_map without_workers (command_of line)
 
 -- The files that a command reads, in order.
 abbrev pub files_of_names : Names → List Text
 files_of_names names = names.problem ∷ names.trace ∷ []
 
 abbrev pub files_of : Command → List Text
-files_of (convert names limit) = files_of_names names
+files_of (convert syntax names limit) = files_of_names names
 files_of (steps names) = files_of_names names
 files_of (extract names) = files_of_names names
 files_of (expansion names limit) = files_of_names names
-files_of (check file) = file ∷ []
+files_of (check syntax file) = file ∷ []
+files_of (generate number) = []
 files_of help = []
 
 -- The files that words ask to read.
@@ -56,6 +62,8 @@ AreAlike (words.extract names workers) other = (number : ℕ) × (other ≡ word
 AreAlike (words.expansion names limit workers) other = (number : ℕ) × (other ≡ words.expansion names limit number)
 AreAlike (words.check file) other = other ≡ words.check file
 AreAlike (words.generate made workers) other = (number : ℕ) × (other ≡ words.generate made number)
+AreAlike (words.dedukti names limit workers) other = (number : ℕ) × (other ≡ words.dedukti names limit number)
+AreAlike (words.dkcheck file) other = other ≡ words.dkcheck file
 AreAlike words.help other = other ≡ words.help
 
 -- Both lines ask for such commands.

@@ -6,10 +6,12 @@ use Rattle.std.specs.Io.KnownBytes.{Appends}
 use Rattle.dk_io.specs.Causes.{Rose}
 use Rattle.dk_io.specs.Outside.{Told, AppendsFront}
 use Rattle.words.specs.Usage.{usage_text}
-use Rattle.dk_cli.specs.Commands.{Command, check, convert, expansion, extract, help, steps}
+use Rattle.dk_cli.specs.Commands.{Command, check, convert, expansion, extract, generate, help, steps}
 use Rattle.dk_cli.specs.Answer.{Answers, IsFixed, IsMemory, IsToldOutcome, LacksFile}
+use Rattle.dk_cli.specs.Generation.{IsGenerated}
 use Rattle.dk_cli.specs.Delivery.{Change, Delivers, IsCut, IsNoted, IsRefused, IsUntouched, IsWritten}
 use Rattle.dk_cli.specs.declared.refusal.Refusal.{Refusal}
+use Rattle.dk_cli.specs.declared.refusal.Refusal.TheVariants.{Memory}
 use Rattle.dk_cli.specs.declared.refusal.Status.{Status}
 use Rattle.dk_cli.specs.declared.refusal.Status.TheVariants as status
 
@@ -27,19 +29,21 @@ abbrev pub Lacks : Told → Option Command → Type 0
 Lacks told None = ⊥
 Lacks told (Some command) = LacksFile told command
 
--- The statuses that can come: that of a development that is not typed for `check` alone, for `check` none of
--- a problem and a trace, and for `--help` those of a text that is written.
+-- The statuses that can come: that of a development that is not typed for `check` and `generate` alone, for `check` none of
+-- a problem and a trace, for `generate` none of reading, and for `--help` those of a text that is written.
 abbrev pub CanCome : Command → Status → Type 0
-CanCome (convert names limit) status.IllTyped = ⊥
-CanCome (convert names limit) result = Unit {0}
+CanCome (convert syntax names limit) status.IllTyped = ⊥
+CanCome (convert syntax names limit) result = Unit {0}
 CanCome (steps names) status.IllTyped = ⊥
 CanCome (steps names) result = Unit {0}
 CanCome (extract names) status.IllTyped = ⊥
 CanCome (extract names) result = Unit {0}
 CanCome (expansion names limit) status.IllTyped = ⊥
 CanCome (expansion names limit) result = Unit {0}
-CanCome (check name) status.Input = ⊥
-CanCome (check name) result = Unit {0}
+CanCome (check syntax name) status.Input = ⊥
+CanCome (check syntax name) result = Unit {0}
+CanCome (generate number) status.ReadFault = ⊥
+CanCome (generate number) result = Unit {0}
 CanCome help status.Done = Unit {0}
 CanCome help status.WriteFault = Unit {0}
 CanCome help result = ⊥
@@ -87,3 +91,9 @@ CarriesOutEach None command before now result out notes = Unit {0}
 CarriesOutEach (Some files) command before now result out notes =
     (answer : Result (List ℕ) Refusal) → IsToldOutcome (Some files) command answer
     → ¬ Rose before now → ¬ Rose out.before out.now → result ≢ status.Memory → IsCarriedOut answer result out notes
+
+-- The same of what `generate` makes, whether or not the inputs tell their bytes.
+abbrev pub CarriesOutMade : ℕ → Status → Change → Change → Type 0
+CarriesOutMade number result out notes =
+    (answer : Result (List ℕ) Refusal) → IsGenerated number answer → answer ≢ Err Memory
+    → ¬ Rose out.before out.now → result ≢ status.Memory → IsCarriedOut answer result out notes

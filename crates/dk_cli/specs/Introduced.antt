@@ -19,6 +19,7 @@ use Rattle.dk_cli.specs.Derivations.{IsDerivationAt}
 use Rattle.dk_cli.specs.Judging.{HasVerdicts}
 use Rattle.dk_cli.specs.Proof.{IsProofText, signature_for}
 use Rattle.dk_cli.specs.declared.derivation.Derivation.{Derivation}
+use Rattle.dk_cli.specs.declared.syntax.Syntax.{Syntax}
 
 -- No symbol of the term has the name.
 abbrev pub Lacks : List ℕ → Term → Type 0
@@ -44,8 +45,8 @@ LeavesOut problem verdicts body = (symbol : SymKey) → IsSymbol symbol → Cont
 
 -- Where the inputs tell their bytes, the sink has the text of a proof more, in which each symbol that a step of the two files'
 -- derivation introduces is left out.
-abbrev pub WritesNoIntroduced : Told → Names → Change → Type 0
-WritesNoIntroduced None names out = Unit {0}
-WritesNoIntroduced (Some files) names out = (d : Derivation) × IsDerivationAt names files (Ok d)
+abbrev pub WritesNoIntroduced : Syntax → Told → Names → Change → Type 0
+WritesNoIntroduced syntax None names out = Unit {0}
+WritesNoIntroduced syntax (Some files) names out = (d : Derivation) × IsDerivationAt names files (Ok d)
     × ((verdicts : List Verdict) × HasVerdicts d verdicts
-    × ((text : List ℕ) × (proof : IsProofText d.problem text) × LeavesOut d.problem verdicts proof.is_proof.body × Appends out.old out.new text))
+    × ((text : List ℕ) × (proof : IsProofText syntax d.problem text) × LeavesOut d.problem verdicts proof.is_proof.body × Appends out.old out.new text))

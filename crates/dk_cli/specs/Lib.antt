@@ -6,6 +6,7 @@ pub mod Delivery
 pub mod Derivations
 pub mod Expansion
 pub mod Extraction
+pub mod Generation
 pub mod Headline
 pub mod Introduced
 pub mod Judging
@@ -16,5 +17,6 @@ pub mod Refusals
 pub mod Stages
 pub mod StepReport
 pub mod Steps
+pub mod Syntaxes
 pub mod Views
 pub mod Weight

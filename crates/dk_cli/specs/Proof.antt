@@ -13,11 +13,11 @@ use Rattle.lp_term.specs.View.{term_of}
 use Rattle.lp_term.specs.declared.Command.TheVariants.{Define}
 use Rattle.lp_term.specs.declared.Dev.{Dev}
 use Rattle.lp_term.specs.declared.Lp.{Lp}
-use Rattle.lp_read.specs.Text.{Reads}
-use Rattle.lp_text.specs.Print.{text_of}
 use Rattle.words.specs.Commands.{Names}
 use Rattle.dk_cli.specs.Delivery.{Change}
 use Rattle.dk_cli.specs.Derivations.{IsProblemIn}
+use Rattle.dk_cli.specs.Syntaxes.{ReadsIn, text_in}
+use Rattle.dk_cli.specs.declared.syntax.Syntax.{Syntax}
 
 -- The signature of a development for the problem: what its commands before `goal` declare.
 abbrev pub signature_for : Problem → List Declaration
@@ -39,25 +39,25 @@ pub record IsProofOf (problem : Problem) (development : Dev) : Type 0 where
   pub type_declared : Declared (signature_for problem) (term_of (goal_type_of problem))
   pub body_declared : Declared (signature_for problem) (term_of body)
 
--- The bytes are read as this development, and as no other.
-pub record IsReadAlone (text : List ℕ) (development : Dev) : Type 0 where
-  pub read : Reads text development
-  pub alone : (other : Dev) → Reads text other → other ≡ development
+-- The bytes are read in the syntax as this development, and as no other.
+pub record IsReadAlone (syntax : Syntax) (text : List ℕ) (development : Dev) : Type 0 where
+  pub read : ReadsIn syntax text development
+  pub alone : (other : Dev) → ReadsIn syntax text other → other ≡ development
 
--- The text is that of a proof of the problem.
-pub record IsProofText (problem : Problem) (text : List ℕ) : Type 0 where
+-- The text is that of a proof of the problem, in the syntax.
+pub record IsProofText (syntax : Syntax) (problem : Problem) (text : List ℕ) : Type 0 where
   -- the one development that the text is read as
   pub development : Dev
-  pub is_read : IsReadAlone text development
+  pub is_read : IsReadAlone syntax text development
   -- its canonical text is this one
-  pub canonical : text ≡ text_of development
+  pub canonical : text ≡ text_in syntax development
   -- it is for the problem, and its `goal` has the problem's type
   pub is_proof : IsProofOf problem development
 
 -- Where the inputs tell their bytes, the sink has one text more, and it is that of a proof of the problem that
 -- the bytes of the problem's file are.
-abbrev pub WritesProof : Told → Names → Change → Type 0
-WritesProof None names out = Unit {0}
-WritesProof (Some files) names out = (bytes : List ℕ) × (files names.problem ≡ Some bytes)
+abbrev pub WritesProof : Syntax → Told → Names → Change → Type 0
+WritesProof syntax None names out = Unit {0}
+WritesProof syntax (Some files) names out = (bytes : List ℕ) × (files names.problem ≡ Some bytes)
     × ((problem : Problem) × IsProblemIn bytes (Ok problem)
-    × ((text : List ℕ) × IsProofText problem text × Appends out.old out.new text))
+    × ((text : List ℕ) × IsProofText syntax problem text × Appends out.old out.new text))

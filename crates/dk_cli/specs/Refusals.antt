@@ -11,12 +11,13 @@ use Rattle.tptp_text.specs.declared.OutsideKind.{OutsideKind}
 use Rattle.tptp_text.specs.declared.OutsideKind.TheVariants as kind
 use Rattle.tstp_trace.specs.declared.Unsupported.{Unsupported}
 use Rattle.tstp_trace.specs.declared.Unsupported.TheVariants as unsupported
+use Rattle.dk_cli.specs.Syntaxes.{syntax_word}
 use Rattle.dk_cli.specs.declared.refusal.File.{File}
 use Rattle.dk_cli.specs.declared.refusal.File.TheVariants.{Problem, Trace, Development}
 use Rattle.dk_cli.specs.declared.refusal.ItemFault.{ItemFault}
 use Rattle.dk_cli.specs.declared.refusal.ItemFault.TheVariants as item_fault
 use Rattle.dk_cli.specs.declared.refusal.Refusal.{Refusal}
-use Rattle.dk_cli.specs.declared.refusal.Refusal.TheVariants.{Words, ReadFault, TooLong, NotTptp, TooDeep, TooManyItems, NotLp, NotTyped, Item, Step, NoRefutation, OverWeight, OverWide, WriteFault, Memory}
+use Rattle.dk_cli.specs.declared.refusal.Refusal.TheVariants.{Words, ReadFault, TooLong, NotTptp, TooDeep, TooManyItems, NotDevelopment, NotTyped, Item, Step, NoRefutation, OverWeight, OverWide, WriteFault, Memory}
 use Rattle.dk_cli.specs.declared.refusal.Status.{Status}
 use Rattle.dk_cli.specs.declared.refusal.Status.TheVariants as status
 use Rattle.dk_cli.specs.declared.refusal.StepFault.{StepFault}
@@ -35,7 +36,7 @@ status_of (TooLong file) = status.Limit
 status_of (NotTptp file at) = status.Text
 status_of (TooDeep file at) = status.Limit
 status_of (TooManyItems file) = status.Limit
-status_of (NotLp at) = status.Text
+status_of (NotDevelopment syntax at) = status.Text
 status_of (NotTyped fault) = status.IllTyped
 status_of (Item item fault) = status.Input
 status_of (Step step fault) = step_status fault
@@ -114,7 +115,7 @@ line_of (TooLong file) = codes "too long: " ++ file_word file
 line_of (NotTptp file at) = codes "not TPTP: " ++ file_word file ++ codes " at byte " ++ decimal at
 line_of (TooDeep file at) = codes "too deep: " ++ file_word file ++ codes " at byte " ++ decimal at
 line_of (TooManyItems file) = codes "too many items: " ++ file_word file
-line_of (NotLp at) = codes "not Lambdapi: file at byte " ++ decimal at
+line_of (NotDevelopment syntax at) = codes "not " ++ syntax_word syntax ++ codes ": file at byte " ++ decimal at
 line_of (NotTyped fault) = type_fault_text fault
 line_of (Item item fault) = codes "problem item " ++ decimal item ++ codes ": " ++ item_fault_text fault
 line_of (Step step fault) = codes "step " ++ decimal step ++ codes ": " ++ step_fault_text fault
@@ -128,7 +129,7 @@ line_of Memory = codes "out of memory"
 abbrev pub HasNumber : Refusal → Type 0
 HasNumber (NotTptp file at) = Unit {0}
 HasNumber (TooDeep file at) = Unit {0}
-HasNumber (NotLp at) = Unit {0}
+HasNumber (NotDevelopment syntax at) = Unit {0}
 HasNumber (NotTyped fault) = Unit {0}
 HasNumber (Item item fault) = Unit {0}
 HasNumber (Step step fault) = Unit {0}

@@ -3,7 +3,7 @@ use Rattle.std.specs.Prelude.{ℕ, ◌<◌, List, Ok, Err}
 use Rattle.std.specs.declared.result.Result.{Result}
 use Rattle.words.specs.Commands.{Names, Command as Words}
 use Rattle.words.specs.Commands as words
-use Rattle.dk_cli.specs.Commands.{Command, check, convert, expansion, extract, help, steps}
+use Rattle.dk_cli.specs.Commands.{Command, check, convert, expansion, extract, generate, help, steps}
 use Rattle.dk_cli.specs.declared.command.Command.{Command as CommandRead}
 use Rattle.dk_cli.specs.declared.command.Command.TheVariants as read
 use Rattle.dk_cli.specs.declared.command.Names.{Names as NamesRead}
@@ -16,18 +16,20 @@ names_view names = record { problem = names.problem.now; trace = names.trace.now
 
 -- A command without its number of workers.
 abbrev pub command_view : CommandRead → Command
-command_view (read.Convert names limit workers) = convert (names_view names) limit
+command_view (read.Convert syntax names limit workers) = convert syntax (names_view names) limit
 command_view (read.Steps names workers) = steps (names_view names)
 command_view (read.Extract names) = extract (names_view names)
 command_view (read.Expansion names limit workers) = expansion (names_view names) limit
-command_view (read.Check file) = check file.now
+command_view (read.Check syntax file) = check syntax file.now
+command_view (read.Generate number workers) = generate number
 command_view read.Help = help
 
 -- Where steps are judged, some worker does it.
 abbrev pub HasWorkers : CommandRead → Type 0
-HasWorkers (read.Convert names limit workers) = 0 < workers
+HasWorkers (read.Convert syntax names limit workers) = 0 < workers
 HasWorkers (read.Steps names workers) = 0 < workers
 HasWorkers (read.Expansion names limit workers) = 0 < workers
+HasWorkers (read.Generate number workers) = 0 < workers
 HasWorkers command = Unit {0}
 
 -- The same of a command that the words ask for.
@@ -35,6 +37,8 @@ abbrev pub AsksWorkers : Words → Type 0
 AsksWorkers (words.convert names limit workers) = 0 < workers
 AsksWorkers (words.steps names workers) = 0 < workers
 AsksWorkers (words.expansion names limit workers) = 0 < workers
+AsksWorkers (words.generate number workers) = 0 < workers
+AsksWorkers (words.dedukti names limit workers) = 0 < workers
 AsksWorkers command = Unit {0}
 
 -- The bytes of what is written.

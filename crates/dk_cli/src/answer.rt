@@ -13,8 +13,10 @@ use crate::conversion::developed;
 use crate::derivation::{Derivation, derivation_in};
 use crate::expanding::expanded;
 use crate::extraction::extracted;
+use crate::generation::generated;
 use crate::judging::reported;
 use crate::output::{Output, made};
+use crate::syntax::Syntax;
 use crate::{File, Refusal};
 use dk_io::{Gate, Inputs, ReadAll, read_all};
 use std::alloc::Global;
@@ -59,6 +61,7 @@ fn convert<R: Threads + Sync, I: Inputs, G: Gate>(
     rt: &R,
     alloc: Global,
     inputs: &mut I,
+    syntax: Syntax,
     names: Names<'_>,
     limit: u64,
     workers: u32,
@@ -66,11 +69,12 @@ fn convert<R: Threads + Sync, I: Inputs, G: Gate>(
 ) -> Result<Vec<u8>, Refusal>
     requires { 0 < workers }
     ensures same { I.told inputs.new ≡ I.told inputs.old }
-    ensures answers { AnswersCommand (I.told inputs.old) (convert (names_view names.entry) limit)
+    ensures answers { AnswersCommand (I.told inputs.old)
+        (convert syntax (names_view names.entry) limit)
         (I.faults inputs.old) (I.faults inputs.new) (answer_view result) }
 {
     let derivation = derivation_of(alloc, inputs, names)?;
-    developed(rt, alloc, &derivation, limit, workers, gate)
+    developed(rt, alloc, syntax, &derivation, limit, workers, gate)
 }
 
 fn steps<R: Threads + Sync, I: Inputs, G: Gate>(
@@ -117,13 +121,18 @@ fn expansion<R: Threads + Sync, I: Inputs, G: Gate>(
     expanded(rt, alloc, &derivation, limit, workers, gate)
 }
 
-fn check<I: Inputs>(alloc: Global, inputs: &mut I, name: &str) -> Result<Vec<u8>, Refusal>
+fn check<I: Inputs>(
+    alloc: Global,
+    inputs: &mut I,
+    syntax: Syntax,
+    name: &str,
+) -> Result<Vec<u8>, Refusal>
     ensures same { I.told inputs.new ≡ I.told inputs.old }
-    ensures answers { AnswersCommand (I.told inputs.old) (check name.now)
+    ensures answers { AnswersCommand (I.told inputs.old) (check syntax name.now)
         (I.faults inputs.old) (I.faults inputs.new) (answer_view result) }
 {
     let bytes = read_file(alloc, inputs, name, File::Development)?;
-    checked_in(alloc, bytes)
+    checked_in(alloc, syntax, bytes)
 }
 
 /// The answer to a command.
@@ -144,10 +153,11 @@ fn command_answer<R: Threads + Sync, I: Inputs, G: Gate>(
 {
     match command {
         Command::Convert {
+            syntax,
             names,
             limit,
             workers,
-        } => made(convert(rt, alloc, inputs, names, limit, workers, gate)),
+        } => made(convert(rt, alloc, inputs, syntax, names, limit, workers, gate)),
         Command::Steps { names, workers } => made(steps(rt, alloc, inputs, names, workers, gate)),
         Command::Extract(names) => made(problems(alloc, inputs, names)),
         Command::Expansion {
@@ -155,7 +165,10 @@ fn command_answer<R: Threads + Sync, I: Inputs, G: Gate>(
             limit,
             workers,
         } => made(expansion(rt, alloc, inputs, names, limit, workers, gate)),
-        Command::Check(name) => made(check(alloc, inputs, name)),
+        Command::Check { syntax, file } => made(check(alloc, inputs, syntax, file)),
+        Command::Generate { number, workers } => {
+            made(generated(rt, alloc, number, workers, gate))
+        }
         Command::Help => Ok(Output::Fixed(usage())),
     }
 }

@@ -1,35 +1,21 @@
 //! Whether a file is a development that the type checker accepts.
 ghost use Rattle.std.specs.Prelude.{◌≡◌, IfOk};
-ghost use Rattle.dk_cli.specs.Checking.{IsChecked, IsCheckedIn, IsDevelopmentIn, IsTyping, check_refusal, development_refusal, typed_text as typed_bytes};
+ghost use Rattle.dk_cli.specs.Checking.{IsChecked, IsCheckedIn, IsDevelopmentIn, IsTyping, check_refusal, typed_text as typed_bytes};
 ghost use Rattle.dk_cli.specs.Stages.{Answered, told_by};
 ghost use Rattle.dk_cli.specs.Steps.{answer_view};
 
-use crate::refusal::{File, Refusal, TypeFault};
+use crate::refusal::{Refusal, TypeFault};
+use crate::syntax::Syntax;
 use dk_syntax::NoMemory;
 use lp_kernel::{CheckFault, Typed, check};
-use lp_read::{LpFault, read_dev};
 use lp_term::Dev;
 use std::alloc::Global;
 
-fn told_development(found: Result<Dev, LpFault>) -> Result<Dev, Refusal>
-    ensures { result ≡ told_by development_refusal found }
-{
-    match found {
-        Ok(development) => Ok(development),
-        Err(LpFault::NotLp { at }) => Err(Refusal::NotLp { at }),
-        Err(LpFault::TooDeep { at }) => Err(Refusal::TooDeep {
-            file: File::Development,
-            at,
-        }),
-        Err(LpFault::Memory) => Err(Refusal::Memory),
-    }
-}
-
 /// The development that the bytes of a file are read as. They are dropped as soon as it is read.
-fn development_in(alloc: Global, bytes: Vec<u8>) -> Result<Dev, Refusal>
-    ensures { Answered (IsDevelopmentIn bytes.items) result }
+fn development_in(alloc: Global, syntax: Syntax, bytes: Vec<u8>) -> Result<Dev, Refusal>
+    ensures { Answered (IsDevelopmentIn syntax bytes.items) result }
 {
-    told_development(read_dev(alloc, &bytes))
+    syntax.read(alloc, &bytes)
 }
 
 fn check_told(fault: CheckFault) -> Refusal
@@ -90,9 +76,9 @@ fn checked(alloc: Global, development: &Dev) -> Result<Vec<u8>, Refusal>
 }
 
 /// The same of the development that the bytes of a file are read as.
-pub fn checked_in(alloc: Global, bytes: Vec<u8>) -> Result<Vec<u8>, Refusal>
-    ensures { Answered (IsCheckedIn bytes.items) (answer_view result) }
+pub fn checked_in(alloc: Global, syntax: Syntax, bytes: Vec<u8>) -> Result<Vec<u8>, Refusal>
+    ensures { Answered (IsCheckedIn syntax bytes.items) (answer_view result) }
 {
-    let development = development_in(alloc, bytes)?;
+    let development = development_in(alloc, syntax, bytes)?;
     checked(alloc, &development)
 }

@@ -1,10 +1,11 @@
-//! What the words of the command line ask for, of what is built.
+//! What the words of the command line ask for.
 ghost use Rattle.std.specs.Prelude.{◌≡◌, false, IfOk, IfSome, IsOk, option_map};
 ghost use Rattle.words.specs.Reading.{asks_command};
 ghost use Rattle.words.specs.Views.{texts, words_view};
-ghost use Rattle.dk_cli.specs.Commands.{asked_of, built};
+ghost use Rattle.dk_cli.specs.Commands.{asked_of, without_workers};
 ghost use Rattle.dk_cli.specs.Views.{AsksWorkers, HasWorkers, command_view};
 
+use crate::syntax::Syntax;
 use std::alloc::{AllocError, Global};
 use words::{Words, read_words};
 
@@ -15,10 +16,11 @@ pub struct Names<'a> {
     pub trace: &'a str,
 }
 
-/// A command with its files, or the usage text.
+/// A command with its files or its number, or the usage text.
 #[derive(Clone, Copy)]
 pub enum Command<'a> {
     Convert {
+        syntax: Syntax,
         names: Names<'a>,
         limit: u64,
         workers: u32,
@@ -33,14 +35,21 @@ pub enum Command<'a> {
         limit: u64,
         workers: u32,
     },
-    Check(&'a str),
+    Check {
+        syntax: Syntax,
+        file: &'a str,
+    },
+    Generate {
+        number: u32,
+        workers: u32,
+    },
     Help,
 }
 
-fn built_command<'a>(asked: Words<'a>) -> Option<Command<'a>>
+fn command_asked<'a>(asked: Words<'a>) -> Command<'a>
     requires { AsksWorkers (words_view asked) }
-    ensures view { option_map command_view result ≡ built (words_view asked.entry) }
-    ensures workers { IfSome result HasWorkers }
+    ensures view { command_view result ≡ without_workers (words_view asked.entry) }
+    ensures workers { HasWorkers result }
 {
     match asked {
         Words::Convert {
@@ -48,38 +57,57 @@ fn built_command<'a>(asked: Words<'a>) -> Option<Command<'a>>
             trace,
             limit,
             workers,
-        } => Some(Command::Convert {
+        } => Command::Convert {
+            syntax: Syntax::Lambdapi,
             names: Names { problem, trace },
             limit,
             workers,
-        }),
+        },
         Words::Steps {
             problem,
             trace,
             workers,
-        } => Some(Command::Steps {
+        } => Command::Steps {
             names: Names { problem, trace },
             workers,
-        }),
-        Words::Extract { problem, trace, .. } => Some(Command::Extract(Names { problem, trace })),
+        },
+        Words::Extract { problem, trace, .. } => Command::Extract(Names { problem, trace }),
         Words::Expansion {
             problem,
             trace,
             limit,
             workers,
-        } => Some(Command::Expansion {
+        } => Command::Expansion {
             names: Names { problem, trace },
             limit,
             workers,
-        }),
-        Words::Check { file } => Some(Command::Check(file)),
-        Words::Help => Some(Command::Help),
-        Words::Generate { .. } => None,
+        },
+        Words::Check { file } => Command::Check {
+            syntax: Syntax::Lambdapi,
+            file,
+        },
+        Words::Generate { number, workers } => Command::Generate { number, workers },
+        Words::Dedukti {
+            problem,
+            trace,
+            limit,
+            workers,
+        } => Command::Convert {
+            syntax: Syntax::Dedukti,
+            names: Names { problem, trace },
+            limit,
+            workers,
+        },
+        Words::DkCheck { file } => Command::Check {
+            syntax: Syntax::Dedukti,
+            file,
+        },
+        Words::Help => Command::Help,
     }
 }
 
-/// What the words ask for: nothing where they are none of the program's forms, or where the command
-/// is not built yet. It takes memory only where the first word is a command's.
+/// What the words ask for: nothing where they are none of the program's forms. It takes memory only where the first
+/// word is a command's.
 pub fn asked_command<'a>(
     alloc: Global,
     words: &'a [String],
@@ -91,7 +119,7 @@ pub fn asked_command<'a>(
 {
     let read = read_words(alloc, words)?;
     match read {
-        Some(asked) => Ok(built_command(asked)),
+        Some(asked) => Ok(Some(command_asked(asked))),
         None => Ok(None),
     }
 }

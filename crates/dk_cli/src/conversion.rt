@@ -1,4 +1,4 @@
-//! What `convert` makes of a derivation: a text, or the first refusal.
+//! What `convert` and `dedukti` make of a derivation: a text, or the first refusal.
 ghost use Rattle.std.specs.Prelude.{◌<◌, All, OnOk};
 ghost use Rattle.dk_cli.specs.Conversion.{HasName, IsDeveloped, IsWritten};
 ghost use Rattle.dk_cli.specs.Planning.{IsPlanFor};
@@ -8,11 +8,11 @@ ghost use Rattle.dk_cli.specs.Steps.{IsDerived, answer_view};
 use crate::derivation::Derivation;
 use crate::planning::planned;
 use crate::refusal::Refusal;
+use crate::syntax::Syntax;
 use development::development;
 use dk_io::Gate;
 use dk_syntax::{NoMemory, SymKey};
 use lp_term::ident_of;
-use lp_text::print;
 use plan::Plan;
 use std::alloc::Global;
 use std::thread::Threads;
@@ -28,15 +28,20 @@ fn names(alloc: Global, symbols: &[SymKey]) -> Result<(), NoMemory>
 }
 
 /// The text of the development of a plan.
-fn written(alloc: Global, derivation: &Derivation, plan: &Plan) -> Result<Vec<u8>, Refusal>
+pub fn written(
+    alloc: Global,
+    syntax: Syntax,
+    derivation: &Derivation,
+    plan: &Plan,
+) -> Result<Vec<u8>, Refusal>
     requires derived { IsDerived derivation.now }
     requires plan { IsPlanFor derivation.now plan.now }
-    ensures { Answered (IsWritten derivation.now plan.now) (answer_view result) }
+    ensures { Answered (IsWritten syntax derivation.now plan.now) (answer_view result) }
 {
     let problem = &derivation.problem;
     names(alloc, problem.symbols.as_slice())?;
     let made = development(alloc, problem, &derivation.trace, plan)?;
-    let text = print(alloc, &made)?;
+    let text = syntax.print(alloc, &made)?;
     Ok(text)
 }
 
@@ -44,6 +49,7 @@ fn written(alloc: Global, derivation: &Derivation, plan: &Plan) -> Result<Vec<u8
 pub fn developed<R: Threads + Sync, G: Gate>(
     rt: &R,
     alloc: Global,
+    syntax: Syntax,
     derivation: &Derivation,
     limit: u64,
     workers: u32,
@@ -51,8 +57,8 @@ pub fn developed<R: Threads + Sync, G: Gate>(
 ) -> Result<Vec<u8>, Refusal>
     requires derived { IsDerived derivation.now }
     requires workers { 0 < workers }
-    ensures { Answered (IsDeveloped limit derivation.now) (answer_view result) }
+    ensures { Answered (IsDeveloped syntax limit derivation.now) (answer_view result) }
 {
     let plan = planned(rt, alloc, derivation, limit, workers, gate)?;
-    written(alloc, derivation, &plan)
+    written(alloc, syntax, derivation, &plan)
 }

@@ -1,7 +1,8 @@
 //! The program: reads a problem and a refutation of it, and writes a development whose `goal` has the
-//! problem's type (`convert`), the verdict on each step (`steps`), each derived step as a problem
-//! (`extract`), or the report on what the development is made from (`expansion`); or reads a
-//! development and says whether it is typed (`check`). `--help` alone writes the usage text.
+//! problem's type (`convert`, and `dedukti` in the other syntax), the verdict on each step (`steps`), each
+//! derived step as a problem (`extract`), or the report on what the development is made from (`expansion`);
+//! or reads a development and says whether it is typed (`check`, `dkcheck`); or makes both files itself and
+//! tells how they went through (`generate`). `--help` alone writes the usage text.
 //!
 //! `run` does all of it, over words, inputs, a sink and notes that its caller gives; `main` gives the
 //! real ones. What it answers is `IsOutcome` (specs/Outcome), how it is delivered `Delivers`
@@ -16,6 +17,7 @@ mod conversion;
 mod derivation;
 mod expanding;
 mod extraction;
+mod generation;
 mod judging;
 mod lines;
 mod output;
@@ -23,6 +25,7 @@ mod planning;
 mod reading;
 mod refusal;
 mod run;
+mod syntax;
 mod type_lines;
 
 use dk_io::{ErrNotes, FileInputs, NoGate, OutSink};
@@ -34,6 +37,7 @@ use std::env;
 use std::env::Env;
 use std::io::ErrorKind;
 use std::process::ExitCode;
+pub use syntax::Syntax;
 
 /// The words of the command line, without the program's name.
 fn words<R: Env + AllocGlobal>(rt: &R) -> Result<Vec<String>, Refusal> {
@@ -68,6 +72,8 @@ fn main(rt: HostRuntime) -> ExitCode {
     ExitCode::from(status as u8)
 }
 
+#[cfg(test)]
+mod outside_rows;
 #[cfg(test)]
 mod step_rows;
 #[cfg(test)]

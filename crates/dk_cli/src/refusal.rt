@@ -1,8 +1,10 @@
 //! Why nothing, or not all, was written, and the status and the line that say so.
 ghost use Rattle.std.specs.Prelude.{◌≡◌, ◌++◌, IfOk, IfSome, IfNone, string_bytes, codes, decimal};
+ghost use Rattle.dk_cli.specs.Syntaxes.{syntax_word};
 ghost use Rattle.dk_cli.specs.Refusals.{step_status, status_of, line_of, file_word, HasNumber};
 
 use crate::lines::{counted_line, item_fault_line, numbered_line, step_fault_line};
+use crate::syntax::Syntax;
 use crate::type_lines::type_fault_line;
 use dk_syntax::{Name, NoMemory};
 use itoa::Buffer;
@@ -103,7 +105,7 @@ pub enum Refusal {
     /// The file has more items than the limit.
     TooManyItems(File),
     /// No command of a development begins at the byte, which is counted from 0.
-    NotLp { at: u64 },
+    NotDevelopment { syntax: Syntax, at: u64 },
     /// The development is read, and not typed.
     NotTyped(TypeFault),
     /// The first item at fault of the problem, counted from 1.
@@ -152,7 +154,7 @@ impl Refusal {
         match self {
             Refusal::Words => Status::Words,
             Refusal::ReadFault(_) => Status::ReadFault,
-            Refusal::NotTptp { .. } | Refusal::NotLp { .. } => Status::Text,
+            Refusal::NotTptp { .. } | Refusal::NotDevelopment { .. } => Status::Text,
             Refusal::TooLong(_)
             | Refusal::TooDeep { .. }
             | Refusal::TooManyItems(_)
@@ -187,7 +189,7 @@ impl Refusal {
             Refusal::Memory => Some("out of memory"),
             Refusal::NotTptp { .. }
             | Refusal::TooDeep { .. }
-            | Refusal::NotLp { .. }
+            | Refusal::NotDevelopment { .. }
             | Refusal::NotTyped(_)
             | Refusal::Item { .. }
             | Refusal::Step { .. }
@@ -204,7 +206,7 @@ impl Refusal {
         match self {
             Refusal::NotTptp { file, at } => place_line(alloc, "not TPTP: ", *file, *at),
             Refusal::TooDeep { file, at } => place_line(alloc, "too deep: ", *file, *at),
-            Refusal::NotLp { at } => counted_line(alloc, "not Lambdapi: file at byte ", *at),
+            Refusal::NotDevelopment { syntax, at } => unread_line(alloc, *syntax, *at),
             Refusal::NotTyped(fault) => type_fault_line(alloc, fault),
             Refusal::Item { item, fault } => {
                 let why = item_fault_line(alloc, fault)?;
@@ -240,6 +242,19 @@ fn place_line(alloc: Global, front: &str, file: File, at: u64) -> Result<String,
     let mut number = Buffer::new();
     let mut line = file_line(alloc, front, file)?;
     line.push_str(" at byte ")?;
+    line.push_str(number.format(at))?;
+    Ok(line)
+}
+
+/// The line of a file that is no development.
+fn unread_line(alloc: Global, syntax: Syntax, at: u64) -> Result<String, AllocError>
+    ensures { IfOk result (λ line. string_bytes line ≡ codes "not " ++ syntax_word syntax
+        ++ codes ": file at byte " ++ decimal at) }
+{
+    let mut number = Buffer::new();
+    let mut line = String::from_str(alloc, "not ")?;
+    line.push_str(syntax.word())?;
+    line.push_str(": file at byte ")?;
     line.push_str(number.format(at))?;
     Ok(line)
 }

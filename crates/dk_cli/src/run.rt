@@ -5,16 +5,18 @@ ghost use Rattle.dk_cli.specs.Checking.{TypesAccepted, WritesTyped};
 ghost use Rattle.words.specs.Commands.{Names, Text};
 ghost use Rattle.words.specs.Reading.{asks_command};
 ghost use Rattle.words.specs.Views.{texts};
-ghost use Rattle.dk_cli.specs.Commands.{AskAlike, asked_of, check, convert, expansion, extract, files_asked, help, steps};
+ghost use Rattle.dk_cli.specs.Commands.{AskAlike, asked_of, check, convert, expansion, extract, files_asked, generate, help, steps};
 ghost use Rattle.dk_cli.specs.Delivery.{Delivers, IsRefused, change};
 ghost use Rattle.dk_cli.specs.Expansion.{WritesReport};
 ghost use Rattle.dk_cli.specs.Extraction.{WritesProblems};
-ghost use Rattle.dk_cli.specs.Headline.{CanCome, CarriesOutEach, DoesOutcome, IsRun, Lacks, NotesByStatus, RefusesWords, WritesByStatus, WritesUsage};
+ghost use Rattle.dk_cli.specs.Generation.{WritesSummary};
+ghost use Rattle.dk_cli.specs.Headline.{CanCome, CarriesOutEach, CarriesOutMade, DoesOutcome, IsRun, Lacks, NotesByStatus, RefusesWords, WritesByStatus, WritesUsage};
 ghost use Rattle.dk_cli.specs.Introduced.{WritesNoIntroduced};
 ghost use Rattle.dk_cli.specs.Proof.{WritesProof};
 ghost use Rattle.dk_cli.specs.Refusals.{HasNumber};
 ghost use Rattle.dk_cli.specs.StepReport.{WritesLines};
 ghost use Rattle.dk_cli.specs.Views.{output_view};
+ghost use Rattle.dk_cli.specs.declared.syntax.Syntax.{Syntax};
 
 use crate::answer::answer;
 use crate::output::Output;
@@ -144,16 +146,16 @@ pub fn run<R: Threads + Sync, I: Inputs, K: Sink, N: Notes, G: Gate>(
     ensures write_only { result ≡ Status.WriteFault → Rose (K.faults out.old) (K.faults out.new) }
     ensures write_rose { K.faults out.old < K.faults out.new → result ≡ Status.WriteFault }
 
-    // With status 0 what `convert` wrote is a proof of the problem, by the typing rules.
-    ensures proof { (names : Names) → (limit : ℕ)
-        → asked_of (texts words.now) ≡ Some (convert names limit)
-        → result ≡ Status.Done → WritesProof (I.told inputs.old) names
+    // With status 0 what `convert` or `dedukti` wrote is a proof of the problem, by the typing rules.
+    ensures proof { (syntax : Syntax) → (names : Names) → (limit : ℕ)
+        → asked_of (texts words.now) ≡ Some (convert syntax names limit)
+        → result ≡ Status.Done → WritesProof syntax (I.told inputs.old) names
         (change (K.kept out.old) (K.kept out.new) (K.faults out.old) (K.faults out.new)) }
 
     // No symbol that a step introduces is in that proof, nor is it declared with it.
-    ensures introduced { (names : Names) → (limit : ℕ)
-        → asked_of (texts words.now) ≡ Some (convert names limit)
-        → result ≡ Status.Done → WritesNoIntroduced (I.told inputs.old) names
+    ensures introduced { (syntax : Syntax) → (names : Names) → (limit : ℕ)
+        → asked_of (texts words.now) ≡ Some (convert syntax names limit)
+        → result ≡ Status.Done → WritesNoIntroduced syntax (I.told inputs.old) names
         (change (K.kept out.old) (K.kept out.new) (K.faults out.old) (K.faults out.new)) }
 
     // With status 0 what `steps` wrote are the lines of the verdicts on the steps, right or wrong.
@@ -172,14 +174,26 @@ pub fn run<R: Threads + Sync, I: Inputs, K: Sink, N: Notes, G: Gate>(
         → result ≡ Status.Done → WritesReport (I.told inputs.old) names limit
         (change (K.kept out.old) (K.kept out.new) (K.faults out.old) (K.faults out.new)) }
 
-    // With status 0 `check` wrote `typed` and a newline, and the file is a development that is accepted and typed;
-    // of each such file the status is 0.
-    ensures typed { (name : List ℕ) → asked_of (texts words.now) ≡ Some (check name)
-        → result ≡ Status.Done → WritesTyped (I.told inputs.old) name
+    // With status 0 `check` or `dkcheck` wrote `typed` and a newline, and the file is a development that is accepted
+    // and typed; of each such file the status is 0.
+    ensures typed { (syntax : Syntax) → (name : List ℕ)
+        → asked_of (texts words.now) ≡ Some (check syntax name)
+        → result ≡ Status.Done → WritesTyped syntax (I.told inputs.old) name
         (change (K.kept out.old) (K.kept out.new) (K.faults out.old) (K.faults out.new)) }
-    ensures accepted { (name : List ℕ) → asked_of (texts words.now) ≡ Some (check name)
-        → TypesAccepted (I.told inputs.old) name (I.faults inputs.old) (I.faults inputs.new) result
+    ensures accepted { (syntax : Syntax) → (name : List ℕ)
+        → asked_of (texts words.now) ≡ Some (check syntax name)
+        → TypesAccepted syntax (I.told inputs.old) name (I.faults inputs.old) (I.faults inputs.new) result
         (change (K.kept out.old) (K.kept out.new) (K.faults out.old) (K.faults out.new)) }
+
+    // With status 0 what `generate` wrote is the summary of what it made, whose development is accepted and is a proof;
+    // whatever the inputs tell, each status, text and line comes exactly where it is what the made files give.
+    ensures summary { (number : ℕ) → asked_of (texts words.now) ≡ Some (generate number)
+        → result ≡ Status.Done → WritesSummary number
+        (change (K.kept out.old) (K.kept out.new) (K.faults out.old) (K.faults out.new)) }
+    ensures made { (number : ℕ) → asked_of (texts words.now) ≡ Some (generate number)
+        → CarriesOutMade number result
+        (change (K.kept out.old) (K.kept out.new) (K.faults out.old) (K.faults out.new))
+        (change (N.kept notes.old) (N.kept notes.new) (N.faults notes.old) (N.faults notes.new)) }
 
     // Each status, text and line comes exactly where it is the outcome's.
     ensures outcome { IfSome (asked_of (texts words.now)) (λ command.

@@ -8,9 +8,9 @@ use std::thread::Threads;
 
 /// A problem, a trace, and the line on each of its steps.
 #[derive(Clone, Copy)]
-struct Row<'a> {
-    problem: &'a str,
-    trace: &'a str,
+pub struct Row<'a> {
+    pub problem: &'a str,
+    pub trace: &'a str,
     lines: &'a str,
 }
 
@@ -142,7 +142,7 @@ cnf(c,plain,q,inference(r,[status(thm)],[a,b])).",
 ];
 
 /// A trace in the manner of E.
-const OF_E: Row = Row {
+pub const OF_E: Row = Row {
     problem: "% the problem\nfof(man,axiom,![X]:(man(X)=>mortal(X))).\nfof(soc,axiom,man(socrates)).\nfof(goal,conjecture,?[X]:mortal(X)).\n",
     trace: "# SZS status Theorem
 % SZS output start CNFRefutation
@@ -253,6 +253,28 @@ fn two_pieces_see_each_other(rt: HostRuntime) -> Result<(), Fail> {
             &gate,
         )?;
         assert!(rt; found.status == Status::Done && gate.is_seen());
+    }
+    let gate = Meeting::new();
+    let words = ["generate", "5", "--workers", "2"];
+    let found = run_past(&rt, &words, "", b"", SOUND, &gate)?;
+    assert!(rt; found.status == Status::Done && gate.is_seen());
+    Ok(())
+}
+
+#[test]
+fn what_is_made_is_summed(rt: HostRuntime) -> Result<(), Fail> {
+    let line =
+        "generate 2: 3 hypotheses, 10 steps, 7 instances, 2 eigenvariables, weight 18, typed\n";
+    for workers in ["1", "2", "64"] {
+        let found = run_on(
+            &rt,
+            &["generate", "2", "--workers", workers],
+            "",
+            b"",
+            SOUND,
+        )?;
+        assert!(rt; found.status == Status::Done && found.notes.is_empty());
+        assert!(rt; found.out.as_slice() == line.as_bytes());
     }
     Ok(())
 }

@@ -5,11 +5,11 @@ use std::alloc::Global;
 use std::test::Fail;
 use std::thread::Threads;
 
-const PROBLEM: &str = "cnf(a1,axiom,p).\ncnf(a2,axiom,~p).\n";
+pub const PROBLEM: &str = "cnf(a1,axiom,p).\ncnf(a2,axiom,~p).\n";
 
-const LEAVES: &str = "cnf(a1,axiom,p,file(x,a1)).\ncnf(a2,axiom,~p,file(x,a2)).\n";
+pub const LEAVES: &str = "cnf(a1,axiom,p,file(x,a1)).\ncnf(a2,axiom,~p,file(x,a2)).\n";
 
-const END: &str = "cnf(c,plain,$false,inference(r,[status(thm)],[a1,a2])).\n";
+pub const END: &str = "cnf(c,plain,$false,inference(r,[status(thm)],[a1,a2])).\n";
 
 /// What is written behind the prelude for this problem and its trace.
 const WRITTEN: &str = "constant symbol p0_p : Prop;
@@ -25,26 +25,33 @@ ekskon extract PROBLEM TRACE [--workers N]
 ekskon expansion PROBLEM TRACE [--limit N] [--workers N]
 ekskon check FILE
 ekskon generate N [--workers N]
+ekskon dedukti PROBLEM TRACE [--limit N] [--workers N]
+ekskon dkcheck FILE
 ekskon --help
 ";
 
 /// The front of the prelude.
 const FRONT: &str = "constant symbol I : TYPE;\nco";
 
-/// The numbers of the calls that fail, 0 for none, and how many bytes the sink has room for.
+/// The numbers of the calls that fail or take nothing, 0 for none; how many bytes the sink has room for; and how many one
+/// call moves at most.
 #[derive(Clone, Copy)]
 pub struct Outside {
-    read: u64,
-    write: u64,
-    note: u64,
-    room: usize,
+    pub read: u64,
+    pub write: u64,
+    pub zero: u64,
+    pub note: u64,
+    pub room: usize,
+    pub most: usize,
 }
 
 pub const SOUND: Outside = Outside {
     read: 0,
     write: 0,
+    zero: 0,
     note: 0,
     room: 100_000,
+    most: 1_000_000,
 };
 
 /// How a run ended: its status, what it wrote, and its lines.
@@ -74,7 +81,7 @@ fn inputs(alloc: Global, problem: &str, trace: &[u8], fail: u64) -> Result<MemIn
     Ok(MemInputs::new(files, vec![in alloc; fail]?))
 }
 
-fn joined(alloc: Global, parts: &[&str]) -> Result<String, Fail> {
+pub fn joined(alloc: Global, parts: &[&str]) -> Result<String, Fail> {
     let mut text = String::new(alloc);
     for part in parts {
         text.push_str(part)?;
@@ -112,7 +119,10 @@ pub fn run_past<R: Threads + Sync + AllocGlobal, G: Gate>(
 ) -> Result<Ran, Fail> {
     let alloc = rt.alloc();
     let mut inputs = inputs(alloc, problem, trace, outside.read)?;
+    inputs.most = outside.most;
     let mut out = MemSink::new(alloc, outside.room, vec![in alloc; outside.write]?)?;
+    out.most = outside.most;
+    out.zero = vec![in alloc; outside.zero]?;
     let mut notes = MemNotes::new(alloc, 100, vec![in alloc; outside.note]?)?;
     let line = line_of(alloc, words)?;
     let status = run(rt, alloc, &line, &mut inputs, &mut out, &mut notes, gate);
@@ -346,7 +356,7 @@ fn limits_of_forms_and_weights_are_told(rt: HostRuntime) -> Result<(), Fail> {
 }
 
 #[test]
-fn each_call_of_the_outside_may_fail(rt: HostRuntime) -> Result<(), Fail> {
+fn a_development_is_written_as_far_as_there_is_room(rt: HostRuntime) -> Result<(), Fail> {
     let whole = run_outside(&rt, SOUND)?;
     assert!(rt; whole.status == Status::Done && whole.notes.is_empty());
     assert!(rt; whole.out.as_slice().ends_with(WRITTEN.as_bytes()));
@@ -370,23 +380,6 @@ fn each_call_of_the_outside_may_fail(rt: HostRuntime) -> Result<(), Fail> {
     let found = run_on(&rt, &["convert", "p", "t"], PROBLEM, cut.as_bytes(), SOUND)?;
     assert!(rt; found.out.as_slice().ends_with(WRITTEN.as_bytes()));
 
-    // A start and two reads for each of the two files.
-    for (call, line) in [(1, "problem"), (3, "problem"), (4, "trace"), (6, "trace")] {
-        let found = run_outside(
-            &rt,
-            Outside {
-                read: call,
-                ..SOUND
-            },
-        )?;
-        let line = joined(rt.alloc(), &["read fault: ", line, "\n"])?;
-        assert!(rt; found.is_refusal(Status::ReadFault, line.as_str()));
-    }
-    let found = run_outside(&rt, Outside { read: 7, ..SOUND })?;
-    assert!(rt; found.status == Status::Done);
-
-    let found = run_outside(&rt, Outside { write: 1, ..SOUND })?;
-    assert!(rt; found.is_refusal(Status::WriteFault, "write fault\n"));
     let found = run_outside(
         &rt,
         Outside {
@@ -449,7 +442,7 @@ fn words_and_files_are_looked_for(rt: HostRuntime) -> Result<(), Fail> {
         &["steps", "p", "t", "--limit", "5"],
         &["--help", "p"],
         &["expansion", "p", "--workers=2"],
-        &["generate", "7"],
+        &["generate", "501"],
     ];
     for words in rows {
         let found = run_on(&rt, words, "", b"", SOUND)?;
@@ -462,12 +455,14 @@ fn words_and_files_are_looked_for(rt: HostRuntime) -> Result<(), Fail> {
     assert!(rt; found.status == Status::Done && found.notes.is_empty());
     assert!(rt; found.out.as_slice() == USAGE.as_bytes());
 
-    let rows: [(&[&str], &str); 5] = [
+    let rows: [(&[&str], &str); 7] = [
         (&["expansion", "q", "t", "--limit", "65"], "problem"),
         (&["convert", "--limit=65", "--", "p", "q"], "trace"),
         (&["convert", "p", "q"], "trace"),
         (&["extract", "p", "q", "--workers", "64"], "trace"),
         (&["steps", "q", "t"], "problem"),
+        (&["dedukti", "--limit=65", "p", "q"], "trace"),
+        (&["dkcheck", "q"], "file"),
     ];
     for (words, file) in rows {
         let found = run_on(&rt, words, PROBLEM, b"", SOUND)?;

@@ -18,4 +18,6 @@ pub data Command : Type 0 where
   expansion : Names → ℕ → ℕ → Command
   check : Text → Command
   generate : ℕ → ℕ → Command
+  dedukti : Names → ℕ → ℕ → Command
+  dkcheck : Text → Command
   help : Command

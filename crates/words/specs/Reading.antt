@@ -3,7 +3,7 @@ use Rattle.std.specs.Prelude.{ℕ, Bool, false, List, [], ◌∷◌, Option, Non
 use Rattle.std.specs.List.{list_all}
 use Rattle.std.specs.Char.{is_ascii_digit}
 use Rattle.std.specs.Str.Parse.{digits_value}
-use Rattle.words.specs.Commands.{Text, Names, Command, convert, steps, extract, expansion, check, generate, help}
+use Rattle.words.specs.Commands.{Text, Names, Command, convert, steps, extract, expansion, check, generate, dedukti, dkcheck, help}
 use Rattle.words.specs.Parts.{Part, name, option, parts_of}
 
 -- ---- numbers
@@ -138,6 +138,12 @@ checking words = option_map check (file_in words)
 abbrev pub generating : List Text → Option Command
 generating words = option_map (λ (task : Task). generate task.number task.workers) (task_in words)
 
+abbrev pub converting_to_dedukti : List Text → Option Command
+converting_to_dedukti words = option_map (λ (files : Files). dedukti files.names files.limit files.workers) (files_in limit_and_workers words)
+
+abbrev pub checking_dedukti : List Text → Option Command
+checking_dedukti words = option_map dkcheck (file_in words)
+
 -- What a command's word asks for with the words after it.
 abbrev pub command_on : Text → List Text → Option Command
 command_on word words =
@@ -147,7 +153,9 @@ command_on word words =
     else (if bytes_eq word (codes "expansion") then expanding words
     else (if bytes_eq word (codes "check") then checking words
     else (if bytes_eq word (codes "generate") then generating words
-    else (if bytes_eq word (codes "--help") then help_on words else None))))))
+    else (if bytes_eq word (codes "dedukti") then converting_to_dedukti words
+    else (if bytes_eq word (codes "dkcheck") then checking_dedukti words
+    else (if bytes_eq word (codes "--help") then help_on words else None))))))))
 
 -- What the words ask for, if anything.
 abbrev pub command_of : List Text → Option Command
@@ -157,7 +165,8 @@ command_of (word ∷ words) = command_on word words
 -- The word is a command's.
 abbrev pub is_command : Text → Bool
 is_command word = bytes_eq word (codes "convert") || (bytes_eq word (codes "steps") || (bytes_eq word (codes "extract")
-    || (bytes_eq word (codes "expansion") || (bytes_eq word (codes "check") || bytes_eq word (codes "generate")))))
+    || (bytes_eq word (codes "expansion") || (bytes_eq word (codes "check") || (bytes_eq word (codes "generate")
+    || (bytes_eq word (codes "dedukti") || bytes_eq word (codes "dkcheck")))))))
 
 -- The first word is a command's, so that the others are read.
 abbrev pub asks_command : List Text → Bool

@@ -6,7 +6,8 @@ use Rattle.words.specs.Commands.{Text}
 abbrev pub forms : List Text
 forms = codes "convert PROBLEM TRACE [--limit N] [--workers N]" ∷ codes "steps PROBLEM TRACE [--workers N]"
     ∷ codes "extract PROBLEM TRACE [--workers N]" ∷ codes "expansion PROBLEM TRACE [--limit N] [--workers N]"
-    ∷ codes "check FILE" ∷ codes "generate N [--workers N]" ∷ codes "--help" ∷ []
+    ∷ codes "check FILE" ∷ codes "generate N [--workers N]"
+    ∷ codes "dedukti PROBLEM TRACE [--limit N] [--workers N]" ∷ codes "dkcheck FILE" ∷ codes "--help" ∷ []
 
 -- A line for each form, behind the program's name.
 abbrev pub usage_text : Text

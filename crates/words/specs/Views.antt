@@ -3,7 +3,7 @@ use Rattle.std.specs.Prelude.{List, Option, option_map, map, string_bytes}
 use Rattle.std.specs.declared.string.String.{String}
 use Rattle.std.specs.declared.alloc.Global.{Global}
 use Rattle.std.specs.Borrow.{Bor}
-use Rattle.words.specs.Commands.{Text, Command, convert, steps, extract, expansion, check, generate, help}
+use Rattle.words.specs.Commands.{Text, Command, convert, steps, extract, expansion, check, generate, dedukti, dkcheck, help}
 use Rattle.words.specs.Parser.{Picked}
 use Rattle.words.specs.Reading.{Files, Task}
 use Rattle.words.specs.declared.given.Files.{Files as FilesRead}
@@ -24,6 +24,8 @@ words_view (words.Extract problem trace workers) = extract (record { problem = p
 words_view (words.Expansion problem trace limit workers) = expansion (record { problem = problem.now; trace = trace.now }) limit workers
 words_view (words.Check file) = check file.now
 words_view (words.Generate number workers) = generate number workers
+words_view (words.Dedukti problem trace limit workers) = dedukti (record { problem = problem.now; trace = trace.now }) limit workers
+words_view (words.DkCheck file) = dkcheck file.now
 words_view words.Help = help
 
 -- What clap found.

@@ -1,7 +1,7 @@
 //! The commands.
 ghost use Rattle.std.specs.Prelude.{◌≡◌, true, false, IfOk, IsOk, option_map};
 ghost use Rattle.words.specs.Reading.{asks_command, command_of, command_on, is_command, help_on};
-ghost use Rattle.words.specs.Reading.{checking, converting, expanding, extracting, generating, stepping};
+ghost use Rattle.words.specs.Reading.{checking, checking_dedukti, converting, converting_to_dedukti, expanding, extracting, generating, stepping};
 ghost use Rattle.words.specs.Views.{texts, words_view};
 
 use crate::given::{checked_file, generated_task, limited_files, unlimited_files};
@@ -44,6 +44,17 @@ pub enum Words<'a> {
     Generate {
         number: u32,
         workers: u32,
+    },
+    /// Write the development in Dedukti's syntax. The limit is on the weight of the instances.
+    Dedukti {
+        problem: &'a str,
+        trace: &'a str,
+        limit: u64,
+        workers: u32,
+    },
+    /// Check a development in Dedukti's syntax.
+    DkCheck {
+        file: &'a str,
     },
     /// Write the usage text.
     Help,
@@ -124,6 +135,31 @@ fn read_generate<'a>(alloc: Global, words: &'a [String]) -> Result<Option<Words<
     }
 }
 
+fn read_dedukti<'a>(alloc: Global, words: &'a [String]) -> Result<Option<Words<'a>>, AllocError>
+    ensures { IfOk result (λ asked. option_map words_view asked
+        ≡ converting_to_dedukti (texts words.entry.now)) }
+{
+    match limited_files(alloc, words)? {
+        Some(files) => Ok(Some(Words::Dedukti {
+            problem: files.problem,
+            trace: files.trace,
+            limit: files.limit as u64,
+            workers: files.workers,
+        })),
+        None => Ok(None),
+    }
+}
+
+fn read_dkcheck<'a>(alloc: Global, words: &'a [String]) -> Result<Option<Words<'a>>, AllocError>
+    ensures { IfOk result (λ asked. option_map words_view asked
+        ≡ checking_dedukti (texts words.entry.now)) }
+{
+    match checked_file(alloc, words)? {
+        Some(file) => Ok(Some(Words::DkCheck { file })),
+        None => Ok(None),
+    }
+}
+
 fn read_command<'a>(
     alloc: Global,
     word: &str,
@@ -139,6 +175,8 @@ fn read_command<'a>(
         "expansion" => read_expansion(alloc, words),
         "check" => read_check(alloc, words),
         "generate" => read_generate(alloc, words),
+        "dedukti" => read_dedukti(alloc, words),
+        "dkcheck" => read_dkcheck(alloc, words),
         _ => Ok(None),
     }
 }
@@ -167,7 +205,14 @@ pub fn is_command(word: &str) -> bool
     ensures { result ≡ is_command word.now }
 {
     match word {
-        "convert" | "steps" | "extract" | "expansion" | "check" | "generate" => true,
+        "convert"
+        | "steps"
+        | "extract"
+        | "expansion"
+        | "check"
+        | "generate"
+        | "dedukti"
+        | "dkcheck" => true,
         _ => false,
     }
 }

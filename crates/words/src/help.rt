@@ -12,6 +12,8 @@ ekskon extract PROBLEM TRACE [--workers N]
 ekskon expansion PROBLEM TRACE [--limit N] [--workers N]
 ekskon check FILE
 ekskon generate N [--workers N]
+ekskon dedukti PROBLEM TRACE [--limit N] [--workers N]
+ekskon dkcheck FILE
 ekskon --help
 "
 }

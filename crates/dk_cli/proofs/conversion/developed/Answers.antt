@@ -17,10 +17,10 @@ pub returns-in_err-plan : goal.returns-in_err-plan
 returns-in_err-plan g c =
     let d = c.args.derivation.now in
     let end = err_from_is_err_and c.from_residual.result c.from_residual.ensures.1 in
-    stops (IsPlanOf c.args.limit d) (IsWritten d) c.planned.result end.0 (answer_view c.from_residual.result)
+    stops (IsPlanOf c.args.limit d) (IsWritten c.args.syntax d) c.planned.result end.0 (answer_view c.from_residual.result)
     (c.in_err-plan.was ∙ ap Err (sym end.2)) (ap answer_view end.1) c.planned.ensures
 
 pub returns : goal.returns
 returns g c =
     let d = c.args.derivation.now in
-    goes_on (IsPlanOf c.args.limit d) (IsWritten d) c.planned.result c.in_ok-plan.plan (answer_view c.written.result) c.in_ok-plan.was c.planned.ensures c.written.ensures
+    goes_on (IsPlanOf c.args.limit d) (IsWritten c.args.syntax d) c.planned.result c.in_ok-plan.plan (answer_view c.written.result) c.in_ok-plan.was c.planned.ensures c.written.ensures

@@ -5,6 +5,7 @@ use Rattle.dk_cli.proofs.Reported.{writes_lines}
 use Rattle.dk_cli.proofs.Expanded.{writes_report}
 use Rattle.dk_cli.proofs.Extracted.{writes_problems}
 use Rattle.dk_cli.proofs.Accepted.{types_accepted, writes_typed}
+use Rattle.dk_cli.proofs.Summed.{carries_made, writes_summary}
 use Rattle.dk_cli.proofs.run.run.Goals as goal
 
 pub returns-clause-statuses : goal.returns-clause-statuses
@@ -44,10 +45,10 @@ pub returns-clause-read_lacks : goal.returns-clause-read_lacks
 returns-clause-read_lacks g c = λ lacks. let run = c.run_answered.ensures.run in read_lacks _ _ _ _ run.answer _ _ _ run.answers run.delivers lacks
 
 pub returns-clause-proof : goal.returns-clause-proof
-returns-clause-proof g c = λ names limit asked done. let run = c.run_answered.ensures.run in writes_proof _ _ _ _ run.answer _ _ _ run.answers run.delivers names limit asked done
+returns-clause-proof g c = λ syntax names limit asked done. let run = c.run_answered.ensures.run in writes_proof _ _ _ _ run.answer _ _ _ run.answers run.delivers syntax names limit asked done
 
 pub returns-clause-introduced : goal.returns-clause-introduced
-returns-clause-introduced g c = λ names limit asked done. let run = c.run_answered.ensures.run in writes_no_introduced _ _ _ _ run.answer _ _ _ run.answers run.delivers names limit asked done
+returns-clause-introduced g c = λ syntax names limit asked done. let run = c.run_answered.ensures.run in writes_no_introduced _ _ _ _ run.answer _ _ _ run.answers run.delivers syntax names limit asked done
 
 pub returns-clause-read_only : goal.returns-clause-read_only
 returns-clause-read_only g c = λ fault. let run = c.run_answered.ensures.run in read_only _ _ _ _ run.answer _ _ _ run.answers run.delivers fault
@@ -62,10 +63,16 @@ pub returns-clause-report : goal.returns-clause-report
 returns-clause-report g c = λ names limit asked done. let run = c.run_answered.ensures.run in writes_report _ _ _ _ run.answer _ _ _ run.answers run.delivers names limit asked done
 
 pub returns-clause-typed : goal.returns-clause-typed
-returns-clause-typed g c = λ name asked done. let run = c.run_answered.ensures.run in writes_typed _ _ _ _ run.answer _ _ _ run.answers run.delivers name asked done
+returns-clause-typed g c = λ syntax name asked done. let run = c.run_answered.ensures.run in writes_typed _ _ _ _ run.answer _ _ _ run.answers run.delivers syntax name asked done
 
 pub returns-clause-accepted : goal.returns-clause-accepted
-returns-clause-accepted g c = λ name asked. let run = c.run_answered.ensures.run in types_accepted _ _ _ _ run.answer _ _ _ run.answers run.delivers name asked
+returns-clause-accepted g c = λ syntax name asked. let run = c.run_answered.ensures.run in types_accepted _ _ _ _ run.answer _ _ _ run.answers run.delivers syntax name asked
 
 pub returns-clause-workers : goal.returns-clause-workers
 returns-clause-workers g c = λ other alike. let run = c.run_answered.ensures.run in alike_carries _ _ other _ _ run.answer _ _ _ run.answers run.delivers alike
+
+pub returns-clause-summary : goal.returns-clause-summary
+returns-clause-summary g c = λ number asked done. let run = c.run_answered.ensures.run in writes_summary _ run.answer _ _ _ run.fixed run.delivers number asked done
+
+pub returns-clause-made : goal.returns-clause-made
+returns-clause-made g c = λ number asked. let run = c.run_answered.ensures.run in carries_made _ run.answer _ _ _ run.fixed run.delivers number asked

@@ -77,4 +77,6 @@ mod outside_rows;
 #[cfg(test)]
 mod step_rows;
 #[cfg(test)]
+mod syntax_rows;
+#[cfg(test)]
 mod tests;

@@ -1,7 +1,9 @@
 //! Worked traces whose every step is listed: what is right and why, and each wrong step by its reason.
 use super::*;
-use crate::tests::{SOUND, run_on, run_past};
+use crate::tests::{SOUND, joined, run_on, run_past};
 use dk_io::Gate;
+use generator::generate;
+use std::alloc::Global;
 use std::sync::atomic::{AtomicU64, Ordering};
 use std::test::Fail;
 use std::thread::Threads;
@@ -258,6 +260,35 @@ fn two_pieces_see_each_other(rt: HostRuntime) -> Result<(), Fail> {
     let words = ["generate", "5", "--workers", "2"];
     let found = run_past(&rt, &words, "", b"", SOUND, &gate)?;
     assert!(rt; found.status == Status::Done && gate.is_seen());
+    Ok(())
+}
+
+/// The text with the second part in place of the first one.
+fn altered(alloc: Global, text: &str, part: &str, other: &str) -> Result<String, Fail> {
+    let (front, rest) = text.split_once(part).ok_or("no such part")?;
+    joined(alloc, &[front, other, rest])
+}
+
+#[test]
+fn the_first_of_two_altered_steps_is_named(rt: HostRuntime) -> Result<(), Fail> {
+    let alloc = rt.alloc();
+    let files = generate(alloc, 332).map_err(|_| "no memory")?;
+    let problem = std::str::from_utf8(files.problem.as_slice()).map_err(|_| "no text")?;
+    let trace = std::str::from_utf8(files.trace.as_slice()).map_err(|_| "no text")?;
+    let leaf = "(p3(X)=>?[Y]:(r(X,Y)&p4(Y))),file";
+    let once = altered(alloc, trace, leaf, "(p3(X)=>?[Y]:(r(X,Y)&p5(Y))),file")?;
+    let twice = altered(
+        alloc,
+        once.as_str(),
+        "(d235,plain,p235(",
+        "(d235,plain,p236(",
+    )?;
+    for workers in ["1", "2", "64"] {
+        let words = ["convert", "p", "t", "--workers", workers];
+        let bytes = twice.as_str().as_bytes();
+        let found = run_on(&rt, &words, problem, bytes, SOUND)?;
+        assert!(rt; found.is_refusal(Status::Input, "step 5: wrong: altered leaf\n"));
+    }
     Ok(())
 }
 

@@ -55,6 +55,21 @@ fn a_proof_in_the_second_syntax_is_read_back(rt: HostRuntime) -> Result<(), Fail
 }
 
 #[test]
+fn a_rule_lists_each_pattern_variable_once(rt: HostRuntime) -> Result<(), Fail> {
+    // These are read; that they are no prelude is found later.
+    let rows = [
+        "[p, q] I p q p --> q.",
+        "[q, p] I (x : q => p) q --> p.",
+        "[] I --> I.",
+    ];
+    for text in rows {
+        let found = checked(&rt, &[text])?;
+        assert!(rt; found.is_refusal(Status::IllTyped, "bad prelude: command 1\n"));
+    }
+    Ok(())
+}
+
+#[test]
 fn texts_in_the_second_syntax_are_refused_where_they_break(rt: HostRuntime) -> Result<(), Fail> {
     let rows = [
         // A comment has to end, and its own front is no end.

@@ -10,8 +10,8 @@
 //!
 //! Laws for the crates above stand in `laws` (each one's contract is a law), among them that the print of a printable
 //! development is read as it and as no other, and what is printable. Law files that are offered to others:
-//! `proofs/PrintableLaws` (names and terms that are printable), `proofs/PrintLaws` (prints are read) and `proofs/AnswerLaws`
-//! (a text has one answer).
+//! `proofs/PrintableLaws` (names and terms that are printable), `proofs/PrintedNames` (what the names of printed variables mean),
+//! `proofs/PrintLaws` (prints are read) and `proofs/AnswerLaws` (a text has one answer).
 //!
 //! A command is read token by token over a stack on the heap: whatever the nesting, calls do not nest, and neither do
 //! those of a term's drop. Time is linear in the text, but that an identifier is looked for among the open binders,
